@@ -1,0 +1,2 @@
+pub use Rattle.slint_meaning.specs.Lines
+pub use Rattle.slint_meaning.specs.Paths

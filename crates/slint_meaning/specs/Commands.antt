@@ -1,0 +1,111 @@
+-- What each line of a script answers, and the world after it.
+use Rattle.std.specs.Prelude.{ℕ, ℤ, pos, neg_ℤ, List, [], ◌∷◌, ◌++◌, drop, ◌==◌, ◌&&◌, nat_le, is_none, if◌then◌else◌, codes, Option, None, Some, Result, Ok, Err, slice_index}
+use Rattle.std.specs.Fmt.{decimal, signed_decimal}
+use Rattle.std.specs.Str.{bytes_eq}
+use Rattle.std.specs.Str.Parse.{digits_value}
+use Rattle.slint_base.specs.Numbers.{greatest_int}
+use Rattle.slint_lexer.specs.Bytes.{is_number}
+use Rattle.slint_parser.specs.declared.trees.FirstFile.{FirstFile}
+use Rattle.slint_meaning.specs.declared.commands.PathStep.{PathStep}
+use Rattle.slint_meaning.specs.declared.commands.Command.{Command}
+use Rattle.slint_meaning.specs.declared.commands.Command.TheVariants.{Get, Set}
+use Rattle.slint_meaning.specs.declared.commands.BadLine.{BadLine}
+use Rattle.slint_meaning.specs.declared.commands.BadLine.TheVariants as bad
+use Rattle.slint_meaning.specs.declared.commands.LineRefusal.{LineRefusal}
+use Rattle.slint_meaning.specs.declared.commands.LineRefusal.TheVariants as refusals
+use Rattle.slint_meaning.specs.Lines.{line_reading}
+use Rattle.slint_meaning.specs.Refusals.{refusal_number}
+use Rattle.slint_meaning.specs.Sources.{has_name, names_of}
+use Rattle.slint_meaning.specs.Values.{World, assign, property_value}
+
+-- how a run ends by itself
+pub data Ending : Type 0 where
+  done : Ending
+  words : Ending
+  refused : Ending
+  script_long : Ending
+
+-- what a line does: it answers these bytes, and the run goes on in a world or halts
+pub data Turn : Type 0 where
+  goes_on : List ℕ → World → Turn
+  halts : List ℕ → Ending → Turn
+
+-- a written line
+abbrev pub written : List ℕ → List ℕ
+written text = text ++ 10 ∷ []
+
+-- the reply of a refused line
+abbrev pub refusal_reply : LineRefusal → List ℕ
+refusal_reply why = written (codes "refused " ++ decimal (refusal_number why))
+
+-- the reply of an assignment
+abbrev pub ok_reply : List ℕ
+ok_reply = written (codes "ok")
+
+-- the reply that tells a value
+abbrev pub value_reply : ℤ → List ℕ
+value_reply value = written (signed_decimal value)
+
+-- a refused line changes nothing
+abbrev pub refuses : World → LineRefusal → Turn
+refuses world why = goes_on (refusal_reply why) world
+
+-- what a path leads to
+pub data Target : Type 0 where
+  nothing : Target
+  root : Target
+  property : List ℕ → Target
+
+-- the path `root.NAME` leads to a property of the component, `root` to the component, and every other path to nothing
+abbrev pub target_of : FirstFile → List PathStep → Target
+target_of file [] = nothing
+target_of file (first ∷ []) = if bytes_eq first.name (codes "root") then root else nothing
+target_of file (first ∷ second ∷ []) =
+    if bytes_eq first.name (codes "root") && (is_none second.row && has_name (names_of file.props) second.name) then property second.name else nothing
+target_of file (first ∷ second ∷ third ∷ others) = nothing
+
+-- a number at most this, where it is one
+abbrev pub up_to : ℕ → (ℕ → ℤ) → ℕ → Option ℤ
+up_to most signed n = if nat_le n most then Some (signed n) else None
+
+-- the digits of a value, with its sign
+abbrev pub digits_reading : ℕ → (ℕ → ℤ) → List ℕ → Option ℤ
+digits_reading most signed digits = if is_number digits then up_to most signed (digits_value 10 digits) else None
+
+-- a text read as an int: an optional `-` and digits, between the ends of the type
+abbrev pub int_reading : List ℕ → Option ℤ
+int_reading text =
+    if slice_index text 0 == 45 then digits_reading 2147483648 (λ n. neg_ℤ (pos n)) (drop 1 text) else digits_reading greatest_int pos text
+
+-- `get`: the value, evaluated afresh
+abbrev pub does_get : FirstFile → World → Target → Turn
+does_get file world nothing = refuses world refusals.UnknownPath
+does_get file world root = refuses world refusals.WrongKind
+does_get file world (property name) = goes_on (value_reply (property_value file world name)) world
+
+-- an assignment of a property, where the value could be read
+abbrev pub does_assign : World → List ℕ → Option ℤ → Turn
+does_assign world name None = refuses world refusals.BadValue
+does_assign world name (Some value) = goes_on ok_reply (assign world name value)
+
+-- `set`
+abbrev pub does_set : World → Target → List ℕ → Turn
+does_set world nothing text = refuses world refusals.UnknownPath
+does_set world root text = refuses world refusals.WrongKind
+does_set world (property name) text = does_assign world name (int_reading text)
+
+-- a command
+abbrev pub does_command : FirstFile → World → Command → Turn
+does_command file world (Get path) = does_get file world (target_of file path)
+does_command file world (Set path text) = does_set world (target_of file path) text
+
+-- what was read in a line
+abbrev pub does_reading : FirstFile → World → Result (Option Command) BadLine → Turn
+does_reading file world (Ok None) = goes_on [] world
+does_reading file world (Ok (Some command)) = does_command file world command
+does_reading file world (Err bad.TooLong) = refuses world refusals.LineTooLong
+does_reading file world (Err bad.Unread) = refuses world refusals.BadLine
+
+-- a line
+abbrev pub does_line : FirstFile → World → List ℕ → Turn
+does_line file world line = does_reading file world (line_reading line)

@@ -1,0 +1,17 @@
+pub mod Commands
+pub mod Lines
+pub mod Paths
+pub mod Refusals
+pub mod Runs
+pub mod Sources
+pub mod Values
+pub use Rattle.io_edge.specs.Counts
+pub use Rattle.io_edge.specs.Files
+pub use Rattle.io_edge.specs.Streams
+pub use Rattle.slint_base.specs.Answers
+pub use Rattle.slint_base.specs.Names
+pub use Rattle.slint_base.specs.Numbers
+pub use Rattle.slint_base.specs.Rules
+pub use Rattle.slint_lexer.specs.Bytes
+pub use Rattle.slint_lexer.specs.Tokens
+pub use Rattle.slint_parser.specs.Grammar

@@ -1,0 +1,92 @@
+-- What a whole run writes and how it ends: a function of its words, the files and the script.
+use Rattle.std.specs.Prelude.{◌≡◌, ℕ, List, [], ◌∷◌, ◌++◌, take, length, ◌==◌, nat_le, if◌then◌else◌, codes, Option, None, Some, slice_index}
+use Rattle.std.specs.Fmt.{decimal}
+use Rattle.slint_base.specs.declared.rules.Rule.{Rule}
+use Rattle.slint_base.specs.declared.rules.Rule.TheVariants.{FileMissing, NotBuilt}
+use Rattle.slint_base.specs.Rules.{rule_number}
+use Rattle.io_edge.specs.Files.{FileList, bytes_named}
+use Rattle.slint_parser.specs.declared.trees.FirstFile.{FirstFile}
+use Rattle.slint_meaning.specs.Commands.{Ending, done, words, refused, script_long, Turn, goes_on, halts, written, does_line}
+use Rattle.slint_meaning.specs.Lines.{lines_of, whole_lines}
+use Rattle.slint_meaning.specs.Sources.{IsSource, NoSource}
+use Rattle.slint_meaning.specs.Values.{World, opening_world}
+
+-- how a run ended by itself, and all that it wrote
+pub record Outcome : Type 0 where
+  pub end : Ending
+  pub bytes : List ℕ
+
+-- the same end, with these bytes before all others
+abbrev pub behind : List ℕ → Outcome → Outcome
+behind front outcome = record { end = outcome.end; bytes = front ++ outcome.bytes }
+
+-- what comes of a line's turn, where the rest of the run follows from the world
+abbrev pub after_turn : Turn → (World → Outcome) → Outcome
+after_turn (goes_on answer world) rest = behind answer (rest world)
+after_turn (halts answer end) rest = record { end = end; bytes = answer }
+
+-- the lines in order, each in the world that the one before it left, and then the end
+abbrev pub run_lines : FirstFile → World → List (List ℕ) → Outcome → Outcome
+run_lines file world [] end = end
+run_lines file world (line ∷ lines) end = after_turn (does_line file world line) (λ next. run_lines file next lines end)
+
+-- the most bytes of a script
+abbrev pub most_script : ℕ
+most_script = 16777216
+
+-- the script was read to its end
+abbrev pub ended : Outcome
+ended = record { end = done; bytes = [] }
+
+-- the script has a byte too many
+abbrev pub cut_off : Outcome
+cut_off = record { end = script_long; bytes = written (codes "stopped 8") }
+
+-- all lines of a script; of one that is too long the lines that end within the limit
+abbrev pub run_script : FirstFile → List ℕ → Outcome
+run_script file script =
+    if nat_le (length script) most_script
+    then run_lines file opening_world (lines_of script) ended
+    else run_lines file opening_world (whole_lines (take most_script script)) cut_off
+
+-- whether a source is accepted
+pub data Verdict : Type 0 where
+  accepted : FirstFile → Verdict
+  rejected : Rule → Verdict
+
+-- the verdict on the main file, given its bytes where there is such a file
+abbrev pub HasVerdict : Option (List ℕ) → Verdict → Type 0
+HasVerdict None (accepted file) = ⊥
+HasVerdict None (rejected rule) = rule ≡ FileMissing
+HasVerdict (Some bytes) (accepted file) = IsSource bytes file
+HasVerdict (Some bytes) (rejected rule) = (rule ≡ NotBuilt) × NoSource bytes
+
+-- the line of a rejected source; both rules stand at the start of the file
+abbrev pub verdict_line : List ℕ → Rule → List ℕ
+verdict_line name rule = written (codes "refused " ++ decimal (rule_number rule) ++ codes " " ++ name ++ codes " 1:1-1:1")
+
+-- a run whose main file has this name and verdict
+abbrev pub run_verdict : List ℕ → Verdict → List ℕ → Outcome
+run_verdict name (accepted file) script = run_script file script
+run_verdict name (rejected rule) script = record { end = refused; bytes = verdict_line name rule }
+
+-- the main file's name: the words are the program's name and that name, which doesn't begin with a dash
+abbrev pub file_word : List (List ℕ) → Option (List ℕ)
+file_word [] = None
+file_word (program ∷ []) = None
+file_word (program ∷ name ∷ []) = if slice_index name 0 == 45 then None else Some name
+file_word (program ∷ name ∷ other ∷ others) = None
+
+-- the words can't be read
+abbrev pub unreadable : Outcome
+unreadable = record { end = words; bytes = written (codes "words") }
+
+-- the run of a main file over files and script
+abbrev pub RunsFile : Option (List ℕ) → FileList → List ℕ → Outcome → Type 0
+RunsFile None files script outcome = outcome ≡ unreadable
+RunsFile (Some name) files script outcome =
+    (verdict : Verdict) × HasVerdict (bytes_named files name) verdict × (outcome ≡ run_verdict name verdict script)
+
+-- this is the outcome of the words over files and script
+abbrev pub Runs : List (List ℕ) → FileList → List ℕ → Outcome → Type 0
+Runs ws files script outcome = RunsFile (file_word ws) files script outcome
