@@ -11,19 +11,13 @@ use Rattle.slint_meaning.specs.declared.commands.Command.{Command}
 use Rattle.slint_meaning.specs.declared.commands.Command.TheVariants.{Get, Set}
 use Rattle.slint_meaning.specs.declared.commands.BadLine.{BadLine}
 use Rattle.slint_meaning.specs.declared.commands.BadLine.TheVariants as bad
+use Rattle.slint_meaning.specs.declared.commands.Ending.{Ending}
 use Rattle.slint_meaning.specs.declared.commands.LineRefusal.{LineRefusal}
 use Rattle.slint_meaning.specs.declared.commands.LineRefusal.TheVariants as refusals
 use Rattle.slint_meaning.specs.Lines.{line_reading}
 use Rattle.slint_meaning.specs.Refusals.{refusal_number}
 use Rattle.slint_meaning.specs.Sources.{has_name, names_of}
 use Rattle.slint_meaning.specs.Values.{World, assign, property_value}
-
--- how a run ends by itself
-pub data Ending : Type 0 where
-  done : Ending
-  words : Ending
-  refused : Ending
-  script_long : Ending
 
 -- what a line does: it answers these bytes, and the run goes on in a world or halts
 pub data Turn : Type 0 where

@@ -6,7 +6,9 @@ use Rattle.slint_base.specs.declared.rules.Rule.TheVariants.{FileMissing, NotBui
 use Rattle.slint_base.specs.Rules.{rule_number}
 use Rattle.io_edge.specs.Files.{FileList, bytes_named}
 use Rattle.slint_parser.specs.declared.trees.FirstFile.{FirstFile}
-use Rattle.slint_meaning.specs.Commands.{Ending, done, words, refused, script_long, Turn, goes_on, halts, written, does_line}
+use Rattle.slint_meaning.specs.declared.commands.Ending.{Ending}
+use Rattle.slint_meaning.specs.declared.commands.Ending.TheVariants.{Done, Words, Refused, ScriptLong}
+use Rattle.slint_meaning.specs.Commands.{Turn, goes_on, halts, written, does_line}
 use Rattle.slint_meaning.specs.Lines.{lines_of, whole_lines}
 use Rattle.slint_meaning.specs.Sources.{IsSource, NoSource}
 use Rattle.slint_meaning.specs.Values.{World, opening_world}
@@ -36,11 +38,11 @@ most_script = 16777216
 
 -- the script was read to its end
 abbrev pub ended : Outcome
-ended = record { end = done; bytes = [] }
+ended = record { end = Done; bytes = [] }
 
 -- the script has a byte too many
 abbrev pub cut_off : Outcome
-cut_off = record { end = script_long; bytes = written (codes "stopped 8") }
+cut_off = record { end = ScriptLong; bytes = written (codes "stopped 8") }
 
 -- all lines of a script; of one that is too long the lines that end within the limit
 abbrev pub run_script : FirstFile → List ℕ → Outcome
@@ -68,7 +70,7 @@ verdict_line name rule = written (codes "refused " ++ decimal (rule_number rule)
 -- a run whose main file has this name and verdict
 abbrev pub run_verdict : List ℕ → Verdict → List ℕ → Outcome
 run_verdict name (accepted file) script = run_script file script
-run_verdict name (rejected rule) script = record { end = refused; bytes = verdict_line name rule }
+run_verdict name (rejected rule) script = record { end = Refused; bytes = verdict_line name rule }
 
 -- the main file's name: the words are the program's name and that name, which doesn't begin with a dash
 abbrev pub file_word : List (List ℕ) → Option (List ℕ)
@@ -79,7 +81,7 @@ file_word (program ∷ name ∷ other ∷ others) = None
 
 -- the words can't be read
 abbrev pub unreadable : Outcome
-unreadable = record { end = words; bytes = written (codes "words") }
+unreadable = record { end = Words; bytes = written (codes "words") }
 
 -- the run of a main file over files and script
 abbrev pub RunsFile : Option (List ℕ) → FileList → List ℕ → Outcome → Type 0

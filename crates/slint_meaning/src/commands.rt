@@ -32,6 +32,19 @@ pub enum BadLine {
     Unread,
 }
 
+/// How a run ends by itself: neither for want of memory nor by a fault of the outside.
+#[derive(Clone, Copy, Debug, PartialEq, Eq)]
+pub enum Ending {
+    /// The script was read to its end.
+    Done,
+    /// The words can't be read.
+    Words,
+    /// The source is refused.
+    Refused,
+    /// The script has too many bytes.
+    ScriptLong,
+}
+
 /// Why a line is refused, under the number that its reply gives.
 #[derive(Clone, Copy, Debug, PartialEq, Eq)]
 pub enum LineRefusal {

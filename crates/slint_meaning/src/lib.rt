@@ -3,4 +3,4 @@
 
 mod commands;
 
-pub use commands::{BadLine, Command, LineRefusal, Path, PathStep};
+pub use commands::{BadLine, Command, Ending, LineRefusal, Path, PathStep};
