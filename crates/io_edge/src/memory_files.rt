@@ -89,3 +89,46 @@ fn copy_front(alloc: Global, bytes: &[u8]) -> Result<Vec<u8>, AllocError>
 {
     Vec::from_slice(alloc, &bytes[..MOST_READ.min(bytes.len())])
 }
+
+#[cfg(test)]
+mod tests {
+    use super::*;
+    use std::test::Fail;
+
+    #[test]
+    fn finds_the_first_of_a_name(rt: HostRuntime) -> Result<(), Fail> {
+        let mut list = Vec::new(rt.alloc());
+        for (name, len) in [("a", 3), ("b", 262_146), ("a", 5), ("", 0)] {
+            list.push((
+                String::from_str(rt.alloc(), name)?,
+                vec![in rt.alloc(); 7u8; len]?,
+            ))?;
+        }
+        let mut files = MemFiles::new(rt.alloc(), list, vec![in rt.alloc(); 5]?);
+        for (name, want, misses, faults) in [
+            ("a", Ok(Some(3)), 0, 0),
+            ("b", Ok(Some(262_145)), 0, 0),
+            ("A", Ok(None), 1, 0),
+            ("", Ok(Some(0)), 1, 0),
+            ("c", Ok(None), 2, 0),
+            ("a", Err(FilesEnd::Failed), 2, 1),
+            ("a", Ok(Some(3)), 2, 1),
+        ] {
+            let len = files.read(rt.alloc(), name).map(len_of);
+            assert_eq!(rt; len, want, "{name}");
+            assert_eq!(rt;
+                (files.misses(), files.faults()),
+                (misses, faults),
+                "{name}"
+            );
+        }
+        Ok(())
+    }
+
+    fn len_of(found: Found) -> Option<usize> {
+        match found {
+            Found::Bytes(bytes) => Some(bytes.len()),
+            Found::Missing => None,
+        }
+    }
+}

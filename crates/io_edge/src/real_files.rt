@@ -82,3 +82,36 @@ fn read_front<R: rt::Files>(rt: &R, alloc: Global, path: &str) -> io::Result<Vec
     bytes.truncate(MOST_READ);
     Ok(bytes)
 }
+
+#[cfg(test)]
+mod tests {
+    use super::*;
+
+    #[test]
+    fn tells_missing_from_failed(rt: HostRuntime) {
+        let mut files = DiskFiles::new(&rt);
+        for (path, want, misses, faults) in [
+            ("/dev/null", Ok(Some(0)), 0, 0),
+            ("/dev/zero", Ok(Some(262_145)), 0, 0),
+            ("/dev/no such file", Ok(None), 1, 0),
+            ("/dev/null/below", Ok(None), 2, 0),
+            ("/", Err(FilesEnd::Failed), 2, 1),
+            ("/dev/null\0", Err(FilesEnd::Failed), 2, 2),
+        ] {
+            let len = files.read(rt.alloc(), path).map(len_of);
+            assert_eq!(rt; len, want, "{path}");
+            assert_eq!(rt;
+                (files.misses(), files.faults()),
+                (misses, faults),
+                "{path}"
+            );
+        }
+    }
+
+    fn len_of(found: Found) -> Option<usize> {
+        match found {
+            Found::Bytes(bytes) => Some(bytes.len()),
+            Found::Missing => None,
+        }
+    }
+}

@@ -155,3 +155,78 @@ fn write_through<W: Write>(writer: &mut W, buf: &[u8]) -> io::Result<usize>
     }
     Err(io::Error::from(ErrorKind::Interrupted))
 }
+
+#[cfg(test)]
+mod tests {
+    use super::*;
+    use crate::{SourceEnd, take_up_to, write_all};
+    use std::test::Fail;
+
+    #[test]
+    fn carries_bytes_through(rt: HostRuntime) -> Result<(), Fail> {
+        let mut source = StreamSource::new(b"some bytes".as_slice());
+        let taken = take_up_to(rt.alloc(), 100, &mut source)?;
+        let mut sink = StreamSink::new(Vec::new(rt.alloc()));
+        write_all(&mut sink, &taken)?;
+        write_all(&mut sink, b"")?;
+        assert_eq!(rt; sink.inner.as_slice(), b"some bytes".as_slice());
+        assert_eq!(rt; (source.faults(), sink.faults()), (0, 0));
+        Ok(())
+    }
+
+    /// A stream that is interrupted once, moves two bytes, and then moves none or fails.
+    #[derive(Drop)]
+    struct Broken {
+        calls: u8,
+    }
+
+    impl Broken {
+        fn next(&mut self) -> io::Result<usize> {
+            self.calls = self.calls.saturating_add(1);
+            match self.calls {
+                1 => Err(io::Error::from(ErrorKind::Interrupted)),
+                2 => Ok(2),
+                3 => Ok(0),
+                _ => Err(io::Error::from(ErrorKind::BrokenPipe)),
+            }
+        }
+    }
+
+    impl Read for Broken {
+        fn read(&mut self, buf: &mut [u8]) -> io::Result<usize> {
+            Ok(self.next()?.min(buf.len()))
+        }
+    }
+
+    impl Write for Broken {
+        fn write(&mut self, buf: &[u8]) -> io::Result<usize> {
+            Ok(self.next()?.min(buf.len()))
+        }
+
+        fn flush(&mut self) -> io::Result<()> {
+            Ok(())
+        }
+    }
+
+    impl ToldReader for Broken {
+        ghost evenly = { λ _ _ _. refl };
+    }
+
+    impl ToldWriter for Broken {
+        ghost evenly = { λ _ _ _. refl };
+    }
+
+    #[test]
+    fn counts_each_failure(rt: HostRuntime) -> Result<(), Fail> {
+        let mut source = StreamSource::new(Broken { calls: 0 });
+        assert_eq!(rt; take_up_to(rt.alloc(), 100, &mut source)?.len(), 2);
+        assert!(rt; take_up_to(rt.alloc(), 100, &mut source) == Err(SourceEnd::Failed));
+        assert_eq!(rt; source.faults(), 1);
+        let mut sink = StreamSink::new(Broken { calls: 0 });
+        assert_eq!(rt; write_all(&mut sink, b"abc"), Err(SinkEnd::Failed));
+        assert_eq!(rt; sink.faults(), 1);
+        assert_eq!(rt; write_all(&mut sink, b"abc"), Err(SinkEnd::Failed));
+        assert_eq!(rt; sink.faults(), 2);
+        Ok(())
+    }
+}

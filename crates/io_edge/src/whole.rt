@@ -102,3 +102,53 @@ fn take_piece<S: Source>(
     taken.extend_from_slice(&piece[..count])?;
     Ok(count)
 }
+
+#[cfg(test)]
+mod tests {
+    use super::*;
+    use crate::{MemSink, MemSource};
+    use std::test::Fail;
+
+    #[test]
+    fn reads_and_writes_in_pieces(rt: HostRuntime) -> Result<(), Fail> {
+        for (piece, limit, want) in [
+            (1, 4, "01234"),
+            (3, 4, "012345"),
+            (64, 4, "0123456789"),
+            (3, 9, "0123456789"),
+            (1, 10, "0123456789"),
+        ] {
+            let bytes = Vec::from_slice(rt.alloc(), b"0123456789")?;
+            let mut source = MemSource::new(rt.alloc(), bytes, piece, Vec::new(rt.alloc()));
+            let taken = take_up_to(rt.alloc(), limit, &mut source)?;
+            let mut sink = MemSink::new(rt.alloc(), piece, Vec::new(rt.alloc()));
+            write_all(&mut sink, &taken)?;
+            write_all(&mut sink, source.left())?;
+            assert_eq!(rt; taken.as_slice(), want.as_bytes(), "{piece} to {limit}");
+            assert_eq!(rt;
+                sink.bytes(),
+                b"0123456789".as_slice(),
+                "{piece} to {limit}"
+            );
+        }
+        Ok(())
+    }
+
+    #[test]
+    fn goes_on_after_a_failing_call(rt: HostRuntime) -> Result<(), Fail> {
+        let bytes = Vec::from_slice(rt.alloc(), b"0123456789")?;
+        let mut source = MemSource::new(rt.alloc(), bytes, 3, vec![in rt.alloc(); 2, 9]?);
+        let failed = take_up_to(rt.alloc(), 100, &mut source);
+        assert!(rt; failed == Err(SourceEnd::Failed));
+        assert_eq!(rt; (source.left(), source.faults()), (b"6789".as_slice(), 1));
+        let rest = take_up_to(rt.alloc(), 100, &mut source)?;
+        assert_eq!(rt; (rest.as_slice(), source.faults()), (b"6789".as_slice(), 1));
+
+        let mut sink = MemSink::new(rt.alloc(), 3, vec![in rt.alloc(); 1]?);
+        assert_eq!(rt; write_all(&mut sink, b"01234"), Err(SinkEnd::Failed));
+        assert_eq!(rt; (sink.bytes(), sink.faults()), (b"012".as_slice(), 1));
+        write_all(&mut sink, b"34")?;
+        assert_eq!(rt; (sink.bytes(), sink.faults()), (b"01234".as_slice(), 1));
+        Ok(())
+    }
+}

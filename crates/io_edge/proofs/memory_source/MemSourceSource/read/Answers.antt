@@ -1,4 +1,4 @@
-use Rattle.std.proofs.Common.{◌≡◌, length, take, drop, ap, ◌∙◌, arith}
+use Rattle.std.proofs.Common.{length, take, drop, ap, ◌∙◌, arith}
 use Rattle.std.proofs.lemmas.List.{take_rest}
 use Rattle.io_edge.proofs.Told.{left_behind}
 use Rattle.io_edge.proofs.memory_source.MemSourceSource.read.Goals as goal
