@@ -1,3 +1,5 @@
 pub mod Counts
+pub mod FileList
 pub mod Files
 pub mod Streams
+pub mod Whole

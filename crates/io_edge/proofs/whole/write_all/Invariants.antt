@@ -1,0 +1,15 @@
+use Rattle.std.proofs.Common.{◌≡◌, ◌≤◌, ◌-◌, length, take}
+use Rattle.std.specs.Io.KnownBytes.{Appends}
+use Rattle.io_edge.specs.Counts.{IsQuiet}
+use Rattle.io_edge.proofs.whole.write_all.Given as goal
+
+abbrev pub invariant-loop-at : goal.invariant-loop-at
+invariant-loop-at g l = record {
+  inside : l.at ≤ length l.bytes;
+  taken : Appends (g.K.Sink.taken l.fn.out) (g.K.Sink.taken l.out) (take l.at l.bytes);
+  counted : g.K.Sink.faults l.out ≡ g.K.Sink.faults l.fn.out;
+  steady : g.K.Sink.is_steady l.fn.out → IsQuiet (g.K.Sink.is_steady l.out) (g.K.Sink.faults l.fn.out) (g.K.Sink.faults l.out);
+}
+
+abbrev pub decreases-loop-at : goal.decreases-loop-at
+decreases-loop-at g l = length l.bytes - l.at
