@@ -1,15 +1,16 @@
 -- That the front token is the longest spelling at the front.
 use Rattle.std.proofs.Common.{◌≡◌, ℕ, ◌+◌, ◌-◌, ◌<◌, ◌≤◌, Bool, true, false, cond, eqb, ◌&&◌, ◌⊎◌, inl, inr, Option, Some, None, List, [], ◌∷◌, ◌++◌, length, get_or, take, drop, refl, sym, ap, ◌∙◌, subst, arith}
 use Rattle.std.specs.Char.{is_ascii_digit}
-use Rattle.std.specs.List.{list_all, prefix_len, take_while}
-use Rattle.std.specs.Option.{option_map}
+use Rattle.std.specs.List.{All, slice_get, list_all, prefix_len, take_while}
+use Rattle.std.specs.Option.{option_map, IfSome}
 use Rattle.std.specs.Str.{IsAscii}
 use Rattle.std.proofs.Math.Seq.{take-append-add, take-length}
+use Rattle.std.proofs.lemmas.Str.Ascii.{IsAscii-from_all}
 use Rattle.std.proofs.lemmas.Bool.{eqb-true}
 use Rattle.std.proofs.lemmas.Bool.Decides.{nat_tests}
 use Rattle.std.proofs.lemmas.List.{length-append, length-take-le, take-append-drop, append_assoc, append-nil, nil_from_length}
 use Rattle.std.proofs.lemmas.List.Folds.{length-prefix_len}
-use Rattle.std.proofs.lemmas.List.Sums.{take_while-cons, prefix_len-le-length}
+use Rattle.std.proofs.lemmas.List.Sums.{AllPass-from_list_all, take_while-cons, prefix_len-le-length}
 use Rattle.slint_base.specs.Names.{normal_name}
 use Rattle.slint_lexer.specs.declared.tokens.TokenKind.{TokenKind}
 use Rattle.slint_lexer.specs.declared.tokens.TokenKind.TheVariants as kinds
@@ -226,3 +227,25 @@ front_longest text rest kind spells longest =
     let kind_same : k ≡ kind = one_kind text k kind (subst (λ (t : List ℕ). Spells t k) text_same read.spells) spells in
     let count_same : n ≡ length text = sym (length-take-le n (text ++ rest) read.within) ∙ ap length text_same in
     begun.is ∙ ap (λ (g : TokenKind × ℕ). Some g) (pair_same begun.front kind (length text) kind_same count_same)
+
+-- texts of names and numbers are ASCII
+
+passing_ascii : (p : ℕ → Bool) (xs : List ℕ) → ((b : ℕ) → p b ≡ true → b < 128) → list_all p xs ≡ true → All (λ b. b < 128) xs
+passing_ascii p xs low h k d lt = low _ (AllPass-from_list_all p xs h k d lt)
+
+pub ascii_name : (bytes : List ℕ) → IsAscii (take_while is_name_part bytes)
+ascii_name bytes = IsAscii-from_all _ (passing_ascii is_name_part _ name_part_ascii (list_all-take_while is_name_part bytes))
+
+pub ascii_number : (digits : List ℕ) → is_number digits ≡ true → IsAscii digits
+ascii_number [] h = cc
+ascii_number (b ∷ bs) h = IsAscii-from_all (b ∷ bs) (passing_ascii is_ascii_digit (b ∷ bs) digit_ascii h)
+
+-- the digits that bytes begin with are a number
+pub digits_first : (bytes : List ℕ) (b : ℕ) → slice_get bytes 0 ≡ Some b → is_ascii_digit b ≡ true → is_number (take_while is_ascii_digit bytes) ≡ true
+digits_first [] b h d = cc
+digits_first (x ∷ xs) b h d = let same : x ≡ b = cc in is_number-first x xs (ap is_ascii_digit same ∙ d)
+
+-- how long the front token is
+pub front_within : (bytes : List ℕ) (found : Option (TokenKind × ℕ)) → found ≡ front_token bytes → IfSome found (λ token. (0 < token.1) × (token.1 ≤ length bytes))
+front_within bytes None h = tt
+front_within bytes (Some f) h = let r = reads bytes f (sym h) in (r.some, r.within)

@@ -2,6 +2,7 @@
 use Rattle.std.proofs.Common.{◌≡◌, ℕ, ◌+◌, ◌-◌, ◌<◌, ◌≤◌, Bool, true, false, cond, ◌&&◌, Option, Some, None, List, [], ◌∷◌, ◌++◌, length, take, drop, refl, sym, ap, ◌∙◌, subst, arith}
 use Rattle.std.specs.Char.{is_ascii_digit}
 use Rattle.std.specs.List.{list_all, prefix_len, take_while}
+use Rattle.std.proofs.Math.Numerals.{one-add}
 use Rattle.std.proofs.Math.Seq.{drop-append_seam, take-append_seam, drop-length}
 use Rattle.std.proofs.lemmas.List.{length-append, length-take-le, take-append-drop, append_assoc, append-nil}
 use Rattle.std.proofs.lemmas.List.Folds.{list_all-append}
@@ -57,7 +58,7 @@ behind_blank file at bytes token blank text rest f =
 
 -- separators at the front make no difference but to the place
 
-skip_forward : (file at : ℕ) (bytes : List ℕ) (ts : List Token) → Lexes file (at + prefix_len is_separator bytes) (drop (prefix_len is_separator bytes) bytes) ts → Lexes file at bytes ts
+pub skip_forward : (file at : ℕ) (bytes : List ℕ) (ts : List Token) → Lexes file (at + prefix_len is_separator bytes) (drop (prefix_len is_separator bytes) bytes) ts → Lexes file at bytes ts
 skip_forward file at bytes [] h =
     let n = prefix_len is_separator bytes in
     sym (ap (list_all is_separator) (take-append-drop n bytes)) ∙ list_all-append is_separator (take n bytes) (drop n bytes) ∙ (rw (list_all-take_while is_separator bytes) h)
@@ -77,7 +78,7 @@ skip_forward file at bytes (t ∷ ts) h =
       place = f.place ∙ ap (λ p. stretch file p (length text)) place },
     subst (λ (p : ℕ). Lexes file (p + length text) rest ts) place h.4)
 
-skip_backward : (file at : ℕ) (bytes : List ℕ) (ts : List Token) → Lexes file at bytes ts → Lexes file (at + prefix_len is_separator bytes) (drop (prefix_len is_separator bytes) bytes) ts
+pub skip_backward : (file at : ℕ) (bytes : List ℕ) (ts : List Token) → Lexes file at bytes ts → Lexes file (at + prefix_len is_separator bytes) (drop (prefix_len is_separator bytes) bytes) ts
 skip_backward file at bytes [] h =
     let n = prefix_len is_separator bytes in
     (both (list_all is_separator (take n bytes)) (list_all is_separator (drop n bytes)) (sym (list_all-append is_separator (take n bytes) (drop n bytes)) ∙ ap (list_all is_separator) (take-append-drop n bytes) ∙ h)).1
@@ -99,7 +100,7 @@ skip_backward file at bytes (t ∷ ts) h =
 
 -- the front token stands first
 
-take_forward : (file at : ℕ) (bytes : List ℕ) (f : TokenKind × ℕ) (ts : List Token) → front_token bytes ≡ Some f → Lexes file (at + f.1) (drop f.1 bytes) ts → Lexes file at bytes (token_at file at f ∷ ts)
+pub take_forward : (file at : ℕ) (bytes : List ℕ) (f : TokenKind × ℕ) (ts : List Token) → front_token bytes ≡ Some f → Lexes file (at + f.1) (drop f.1 bytes) ts → Lexes file at bytes (token_at file at f ∷ ts)
 take_forward file at bytes f ts is h =
     let read = reads bytes f is in
     let count : length (take f.1 bytes) ≡ f.1 = length-take-le f.1 bytes read.within in
@@ -112,14 +113,15 @@ take_forward file at bytes f ts is h =
       place = ap (λ p. stretch file p f.1) (omega arith) ∙ ap (λ n. stretch file (at + 0) n) (sym count) },
     subst (λ (p : ℕ). Lexes file p (drop f.1 bytes) ts) place h)
 
--- how a lexing goes on behind the separators and the front token
+-- a lexing of bytes that begin with no separator begins with the front token
 pub record Follows (file at : ℕ) (bytes : List ℕ) (token : Token) (ts : List Token) : Type 0 where
   pub front : TokenKind × ℕ
-  pub is : front_token (drop (prefix_len is_separator bytes) bytes) ≡ Some front
-  pub first : token ≡ token_at file (at + prefix_len is_separator bytes) front
-  pub others : Lexes file (at + prefix_len is_separator bytes + front.1) (drop front.1 (drop (prefix_len is_separator bytes) bytes)) ts
+  pub is : front_token bytes ≡ Some front
+  pub first : token ≡ token_at file at front
+  pub others : Lexes file (at + front.1) (drop front.1 bytes) ts
 
-follows : (file at : ℕ) (bytes : List ℕ) (t : Token) (ts : List Token) → Lexes file at bytes (t ∷ ts) → Follows file at bytes t ts
+-- any lexing goes on so behind the separators
+follows : (file at : ℕ) (bytes : List ℕ) (t : Token) (ts : List Token) → Lexes file at bytes (t ∷ ts) → Follows file (at + prefix_len is_separator bytes) (drop (prefix_len is_separator bytes) bytes) t ts
 follows file at bytes t ts h =
     let n = prefix_len is_separator bytes in
     let blank = h.0 in
@@ -135,8 +137,24 @@ follows file at bytes t ts h =
       first = ap (λ (s : Span). record t { span = s }) (f.place ∙ ap (λ p. stretch file p (length text)) place);
       others = subst (λ (r : List ℕ). Lexes file (at + n + length text) r ts) left (subst (λ (p : ℕ). Lexes file (p + length text) rest ts) place h.4) }
 
+pub follows_apart : (file at : ℕ) (bytes : List ℕ) (t : Token) (ts : List Token) → prefix_len is_separator bytes ≡ 0 → Lexes file at bytes (t ∷ ts) → Follows file at bytes t ts
+follows_apart file at bytes t ts none h =
+    let n = prefix_len is_separator bytes in
+    let place : at + n ≡ at = omega arith in
+    let left : drop n bytes ≡ bytes = ap (λ m. drop m bytes) none in
+    subst (λ (r : List ℕ). Follows file at r t ts) left (subst (λ (p : ℕ). Follows file p (drop n bytes) t ts) place (follows file at bytes t ts h))
+
+-- behind the separators at the front no separator lies
+apart_by : (x : ℕ) (xs : List ℕ) (t : Bool) → is_separator x ≡ t → prefix_len is_separator (drop (prefix_len is_separator xs) xs) ≡ 0 → prefix_len is_separator (drop (cond t (1 + prefix_len is_separator xs) 0) (x ∷ xs)) ≡ 0
+apart_by x xs true e h = rw one-add h
+apart_by x xs false e h = rw e refl
+
+pub apart_again : (bytes : List ℕ) → prefix_len is_separator (drop (prefix_len is_separator bytes) bytes) ≡ 0
+apart_again [] = refl
+apart_again (x ∷ xs) = apart_by x xs (is_separator x) refl (apart_again xs)
+
 -- behind nothing but separators no token begins
-blank_front : (bytes : List ℕ) → list_all is_separator bytes ≡ true → drop (prefix_len is_separator bytes) bytes ≡ []
+pub blank_front : (bytes : List ℕ) → list_all is_separator bytes ≡ true → drop (prefix_len is_separator bytes) bytes ≡ []
 blank_front bytes h =
     let all = prefix_len-all is_separator bytes [] h in
     let count : prefix_len is_separator bytes ≡ length bytes = sym (ap (prefix_len is_separator) (append-nil bytes)) ∙ all ∙ omega arith in

@@ -1,4 +1,4 @@
-ghost use Rattle.std.specs.Prelude.{◌≡◌, IfOk, IsTrue};
+ghost use Rattle.std.specs.Prelude.{◌≡◌, ◌<◌, ◌≤◌, length, IfOk, IfSome, IsTrue};
 ghost use Rattle.std.specs.Char.{is_ascii_digit};
 ghost use Rattle.std.specs.List.{prefix_len};
 ghost use Rattle.std.specs.Str.{IsAscii};
@@ -35,7 +35,8 @@ fn is_name_part(byte: u8) -> bool
 
 /// How many separators the bytes begin with.
 pub(crate) fn separators_length(bytes: &[u8]) -> usize
-    ensures { result ≡ prefix_len is_separator bytes.now }
+    ensures within { result ≤ length bytes.now }
+    ensures count { result ≡ prefix_len is_separator bytes.now }
 {
     bytes.iter().take_while(|b| is_separator(**b)).count()
 }
@@ -98,7 +99,8 @@ pub(crate) fn front_token(
     alloc: Global,
     bytes: &[u8],
 ) -> Result<Option<(TokenKind, usize)>, Memory>
-    ensures { IfOk result (λ found. found ≡ front_token bytes.now) }
+    ensures within { IfOk result (λ found. IfSome found (λ token. (0 < token.1) × (token.1 ≤ length bytes.now))) }
+    ensures token { IfOk result (λ found. found ≡ front_token bytes.now) }
 {
     let Some(first) = bytes.first() else {
         return Ok(None);
