@@ -1,20 +1,19 @@
 -- That the front token is the longest spelling at the front.
-use Rattle.std.proofs.Common.{◌≡◌, ℕ, ◌+◌, ◌-◌, ◌<◌, ◌≤◌, Bool, true, false, cond, eqb, ◌&&◌, ◌⊎◌, inl, inr, Option, Some, None, List, [], ◌∷◌, ◌++◌, length, get_or, take, drop, refl, sym, ap, ◌∙◌, subst, arith}
+use Rattle.std.proofs.Common.{◌≡◌, ℕ, ◌+◌, ◌-◌, ◌<◌, ◌≤◌, Bool, true, false, cond, eqb, ◌&&◌, ◌⊎◌, inl, inr, Option, Some, None, List, [], ◌∷◌, ◌++◌, length, take, drop, refl, sym, ap, ◌∙◌, subst, arith}
 use Rattle.std.specs.Char.{is_ascii_digit}
 use Rattle.std.specs.List.{All, slice_get, list_all, prefix_len, take_while}
-use Rattle.std.specs.Option.{option_map, IfSome}
+use Rattle.std.specs.Option.{option_map}
 use Rattle.std.specs.Str.{IsAscii}
-use Rattle.std.proofs.Math.Seq.{take-append-add, take-length}
+use Rattle.std.proofs.Math.Seq.{take-append-add}
 use Rattle.std.proofs.lemmas.Str.Ascii.{IsAscii-from_all}
 use Rattle.std.proofs.lemmas.Bool.{eqb-true}
 use Rattle.std.proofs.lemmas.Bool.Decides.{nat_tests}
 use Rattle.std.proofs.lemmas.List.{length-append, length-take-le, take-append-drop, append_assoc, append-nil, nil_from_length}
 use Rattle.std.proofs.lemmas.List.Folds.{length-prefix_len}
 use Rattle.std.proofs.lemmas.List.Sums.{AllPass-from_list_all, take_while-cons, prefix_len-le-length}
-use Rattle.slint_base.specs.Names.{normal_name}
 use Rattle.slint_lexer.specs.declared.tokens.TokenKind.{TokenKind}
 use Rattle.slint_lexer.specs.declared.tokens.TokenKind.TheVariants as kinds
-use Rattle.slint_lexer.specs.Bytes.{is_separator, is_name_start, is_name_part, is_name, is_number, number_of}
+use Rattle.slint_lexer.specs.Bytes.{is_separator, is_name_start, is_name_part, is_name, is_number}
 use Rattle.slint_lexer.specs.Reading.{symbol, name_token, number_token, front_token}
 use Rattle.slint_lexer.specs.Tokens.{Spells, IsLongest}
 
@@ -110,12 +109,14 @@ begins text rest (kinds.Id name) h = record {
   front = name_token (text ++ take_while is_name_part rest);
   is = name_spelled text rest h.0;
   no_shorter = omega (arith, length-append text (take_while is_name_part rest));
-  same = λ e. rw e (rw append-nil (rw h.1 refl)) }
+  same = λ e. rw e (rw append-nil (rw h.1 refl));
+}
 begins text rest (kinds.Number n) h = record {
   front = number_token (text ++ take_while is_ascii_digit rest);
   is = number_spelled text rest h.0;
   no_shorter = omega (arith, length-append text (take_while is_ascii_digit rest));
-  same = λ e. rw e (rw append-nil (rw h.1 refl)) }
+  same = λ e. rw e (rw append-nil (rw h.1 refl));
+}
 begins text rest kinds.OpenBrace h = begins_symbol text rest _ (symbol_spelled text rest 123 _ h (λ _. refl))
 begins text rest kinds.CloseBrace h = begins_symbol text rest _ (symbol_spelled text rest 125 _ h (λ _. refl))
 begins text rest kinds.Less h = begins_symbol text rest _ (symbol_spelled text rest 60 _ h (λ _. refl))
@@ -129,8 +130,9 @@ begins text rest kinds.Star h = begins_symbol text rest _ (symbol_spelled text r
 
 symbol_step : (b c : ℕ) (k kind : TokenKind) (others : Option TokenKind) → (b ≡ c → Spells (b ∷ []) k) → (others ≡ Some kind → Spells (b ∷ []) kind) → cond (eqb b c) (Some k) others ≡ Some kind → Spells (b ∷ []) kind
 symbol_step b c k kind others here there h = elim (chosen (eqb b c) (Some k) others (Some kind) h) [
-    inl w ↦ let same : k ≡ kind = cc w.1 in subst (λ (x : TokenKind). Spells (b ∷ []) x) same (here (eqb-true b c w.0))
-  | inr w ↦ there w.1 ]
+  | inl w ↦ let same : k ≡ kind = cc w.1 in subst (λ (x : TokenKind). Spells (b ∷ []) x) same (here (eqb-true b c w.0))
+  | inr w ↦ there w.1
+]
 
 symbol_spells : (b : ℕ) (kind : TokenKind) → symbol b ≡ Some kind → Spells (b ∷ []) kind
 symbol_spells b kind =
@@ -165,7 +167,8 @@ reads_text p b bs kind e h =
     record {
       within = omega (arith, prefix_len-le-length p (b ∷ bs));
       some = omega arith;
-      spells = rw count h }
+      spells = rw count h;
+    }
 
 reads_symbol : (b : ℕ) (bs : List ℕ) (kind : TokenKind) → symbol b ≡ Some kind → Reads (b ∷ bs) kind 1
 reads_symbol b bs kind e = record { within = omega arith; some = omega arith; spells = symbol_spells b kind e }
@@ -244,8 +247,3 @@ ascii_number (b ∷ bs) h = IsAscii-from_all (b ∷ bs) (passing_ascii is_ascii_
 pub digits_first : (bytes : List ℕ) (b : ℕ) → slice_get bytes 0 ≡ Some b → is_ascii_digit b ≡ true → is_number (take_while is_ascii_digit bytes) ≡ true
 digits_first [] b h d = cc
 digits_first (x ∷ xs) b h d = let same : x ≡ b = cc in is_number-first x xs (ap is_ascii_digit same ∙ d)
-
--- how long the front token is
-pub front_within : (bytes : List ℕ) (found : Option (TokenKind × ℕ)) → found ≡ front_token bytes → IfSome found (λ token. (0 < token.1) × (token.1 ≤ length bytes))
-front_within bytes None h = tt
-front_within bytes (Some f) h = let r = reads bytes f (sym h) in (r.some, r.within)

@@ -1,9 +1,9 @@
 -- How lexings of bytes begin, and that bytes have at most one.
-use Rattle.std.proofs.Common.{◌≡◌, ℕ, ◌+◌, ◌-◌, ◌<◌, ◌≤◌, Bool, true, false, cond, ◌&&◌, Option, Some, None, List, [], ◌∷◌, ◌++◌, length, take, drop, refl, sym, ap, ◌∙◌, subst, arith}
+use Rattle.std.proofs.Common.{◌≡◌, ℕ, ◌+◌, Bool, true, false, cond, Some, None, List, [], ◌∷◌, ◌++◌, length, take, drop, refl, sym, ap, ◌∙◌, subst, arith}
 use Rattle.std.specs.Char.{is_ascii_digit}
-use Rattle.std.specs.List.{list_all, prefix_len, take_while}
+use Rattle.std.specs.List.{list_all, prefix_len}
 use Rattle.std.proofs.Math.Numerals.{one-add}
-use Rattle.std.proofs.Math.Seq.{drop-append_seam, take-append_seam, drop-length}
+use Rattle.std.proofs.Math.Seq.{drop-append_seam, drop-length}
 use Rattle.std.proofs.lemmas.List.{length-append, length-take-le, take-append-drop, append_assoc, append-nil}
 use Rattle.std.proofs.lemmas.List.Folds.{list_all-append}
 use Rattle.std.proofs.lemmas.List.Sums.{prefix_len-le-length}
@@ -13,7 +13,7 @@ use Rattle.slint_lexer.specs.declared.tokens.TokenKind.{TokenKind}
 use Rattle.slint_lexer.specs.declared.tokens.TokenKind.TheVariants as kinds
 use Rattle.slint_lexer.specs.Bytes.{is_separator, is_name_start, is_name_part, is_name, is_number}
 use Rattle.slint_lexer.specs.Reading.{front_token}
-use Rattle.slint_lexer.specs.Tokens.{Spells, IsLongest, FrontToken, Lexes, stretch}
+use Rattle.slint_lexer.specs.Tokens.{Spells, FrontToken, Lexes, stretch}
 use Rattle.slint_lexer.proofs.Front.{both, prefix_len-all, list_all-take_while, start_not_separator, digit_not_separator, front_longest, longest_front, reads}
 
 -- what lies at the front of a spelling is no separator
@@ -69,14 +69,19 @@ skip_forward file at bytes (t ∷ ts) h =
     let rest = h.2 in
     let f = h.3 in
     let count : length (take n bytes ++ blank) ≡ n + length blank = omega (arith, length-append (take n bytes) blank, length-take-le n bytes (prefix_len-le-length is_separator bytes)) in
-    let place : at + n + length blank ≡ at + length (take n bytes ++ blank) = omega arith in
-    (take n bytes ++ blank, text, rest, record {
-      whole = sym (take-append-drop n bytes) ∙ ap (λ r. take n bytes ++ r) f.whole ∙ sym (append_assoc (take n bytes) blank (text ++ rest));
-      blanks = list_all-append is_separator (take n bytes) blank ∙ rw (list_all-take_while is_separator bytes) f.blanks;
-      spells = f.spells;
-      longest = f.longest;
-      place = f.place ∙ ap (λ p. stretch file p (length text)) place },
-    subst (λ (p : ℕ). Lexes file (p + length text) rest ts) place h.4)
+    let place : at + n + length blank ≡ at + length (take n bytes ++ blank) = omega arith in (
+      take n bytes ++ blank,
+      text,
+      rest,
+      record {
+        whole = sym (take-append-drop n bytes) ∙ ap (λ r. take n bytes ++ r) f.whole ∙ sym (append_assoc (take n bytes) blank (text ++ rest));
+        blanks = list_all-append is_separator (take n bytes) blank ∙ rw (list_all-take_while is_separator bytes) f.blanks;
+        spells = f.spells;
+        longest = f.longest;
+        place = f.place ∙ ap (λ p. stretch file p (length text)) place;
+      },
+      subst (λ (p : ℕ). Lexes file (p + length text) rest ts) place h.4,
+    )
 
 pub skip_backward : (file at : ℕ) (bytes : List ℕ) (ts : List Token) → Lexes file at bytes ts → Lexes file (at + prefix_len is_separator bytes) (drop (prefix_len is_separator bytes) bytes) ts
 skip_backward file at bytes [] h =
@@ -89,14 +94,19 @@ skip_backward file at bytes (t ∷ ts) h =
     let rest = h.2 in
     let f = h.3 in
     let count = blank_length file at bytes t blank text rest f in
-    let place : at + length blank ≡ at + n + 0 = omega arith in
-    ([], text, rest, record {
-      whole = behind_blank file at bytes t blank text rest f;
-      blanks = refl;
-      spells = f.spells;
-      longest = f.longest;
-      place = f.place ∙ ap (λ p. stretch file p (length text)) place },
-    subst (λ (p : ℕ). Lexes file (p + length text) rest ts) place h.4)
+    let place : at + length blank ≡ at + n + 0 = omega arith in (
+      [],
+      text,
+      rest,
+      record {
+        whole = behind_blank file at bytes t blank text rest f;
+        blanks = refl;
+        spells = f.spells;
+        longest = f.longest;
+        place = f.place ∙ ap (λ p. stretch file p (length text)) place;
+      },
+      subst (λ (p : ℕ). Lexes file (p + length text) rest ts) place h.4,
+    )
 
 -- the front token stands first
 
@@ -104,14 +114,19 @@ pub take_forward : (file at : ℕ) (bytes : List ℕ) (f : TokenKind × ℕ) (ts
 take_forward file at bytes f ts is h =
     let read = reads bytes f is in
     let count : length (take f.1 bytes) ≡ f.1 = length-take-le f.1 bytes read.within in
-    let place : at + f.1 ≡ at + 0 + length (take f.1 bytes) = omega arith in
-    ([], take f.1 bytes, drop f.1 bytes, record {
-      whole = sym (take-append-drop f.1 bytes);
-      blanks = refl;
-      spells = read.spells;
-      longest = longest_front bytes f is;
-      place = ap (λ p. stretch file p f.1) (omega arith) ∙ ap (λ n. stretch file (at + 0) n) (sym count) },
-    subst (λ (p : ℕ). Lexes file p (drop f.1 bytes) ts) place h)
+    let place : at + f.1 ≡ at + 0 + length (take f.1 bytes) = omega arith in (
+      [],
+      take f.1 bytes,
+      drop f.1 bytes,
+      record {
+        whole = sym (take-append-drop f.1 bytes);
+        blanks = refl;
+        spells = read.spells;
+        longest = longest_front bytes f is;
+        place = ap (λ p. stretch file p f.1) (omega arith) ∙ ap (λ n. stretch file (at + 0) n) (sym count);
+      },
+      subst (λ (p : ℕ). Lexes file p (drop f.1 bytes) ts) place h,
+    )
 
 -- a lexing of bytes that begin with no separator begins with the front token
 pub record Follows (file at : ℕ) (bytes : List ℕ) (token : Token) (ts : List Token) : Type 0 where
@@ -135,7 +150,8 @@ follows file at bytes t ts h =
       front = (t.kind, length text);
       is = ap front_token behind ∙ front_longest text rest t.kind f.spells f.longest;
       first = ap (λ (s : Span). record t { span = s }) (f.place ∙ ap (λ p. stretch file p (length text)) place);
-      others = subst (λ (r : List ℕ). Lexes file (at + n + length text) r ts) left (subst (λ (p : ℕ). Lexes file (p + length text) rest ts) place h.4) }
+      others = subst (λ (r : List ℕ). Lexes file (at + n + length text) r ts) left (subst (λ (p : ℕ). Lexes file (p + length text) rest ts) place h.4);
+    }
 
 pub follows_apart : (file at : ℕ) (bytes : List ℕ) (t : Token) (ts : List Token) → prefix_len is_separator bytes ≡ 0 → Lexes file at bytes (t ∷ ts) → Follows file at bytes t ts
 follows_apart file at bytes t ts none h =

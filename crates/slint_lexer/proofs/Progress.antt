@@ -1,9 +1,9 @@
 -- What lexing knows at a place: how the tokens so far go on.
-use Rattle.std.proofs.Common.{◌≡◌, ℕ, ◌+◌, ◌-◌, ◌<◌, ◌≤◌, Bool, true, false, Option, Some, None, List, [], ◌∷◌, ◌++◌, length, take, drop, refl, sym, ap, ◌∙◌, subst, arith}
-use Rattle.std.specs.List.{list_all, prefix_len}
+use Rattle.std.proofs.Common.{◌≡◌, ℕ, ◌+◌, ◌-◌, ◌<◌, ◌≤◌, Option, Some, None, List, [], ◌∷◌, ◌++◌, length, take, drop, refl, sym, ap, ◌∙◌, subst, arith}
+use Rattle.std.specs.List.{prefix_len}
 use Rattle.std.proofs.Math.ListN.{drop_of_length-le}
 use Rattle.std.proofs.Math.Seq.{take-length}
-use Rattle.std.proofs.lemmas.List.{length-append, length-drop, append_assoc, append-nil, drop-drop}
+use Rattle.std.proofs.lemmas.List.{length-drop, append_assoc, append-nil, drop-drop}
 use Rattle.std.proofs.lemmas.List.Sums.{prefix_len-le-length}
 use Rattle.slint_lexer.specs.declared.tokens.Token.{Token}
 use Rattle.slint_lexer.specs.declared.tokens.TokenKind.{TokenKind}
@@ -29,7 +29,8 @@ led_start file bytes =
       within = prefix_len-le-length is_separator bytes;
       apart = apart_again bytes;
       forward = λ ts h. skip_forward file 0 bytes ts (subst (λ (p : ℕ). Lexes file p (drop n bytes) ts) (sym place) h);
-      backward = λ ts h. (ts, refl, subst (λ (p : ℕ). Lexes file p (drop n bytes) ts) place (skip_backward file 0 bytes ts h)) }
+      backward = λ ts h. (ts, refl, subst (λ (p : ℕ). Lexes file p (drop n bytes) ts) place (skip_backward file 0 bytes ts h));
+    }
 
 -- a lexing of bytes that begin with a token goes on behind it
 goes_on : (file at : ℕ) (bytes : List ℕ) (f : TokenKind × ℕ) (ts : List Token) → prefix_len is_separator bytes ≡ 0 → front_token bytes ≡ Some f → Lexes file at bytes ts
@@ -58,16 +59,18 @@ led_step file bytes tokens at f led is =
       within = omega (arith, length-drop at bytes, length-drop end bytes, prefix_len-le-length is_separator (drop end bytes), led.within);
       apart = sym (ap (prefix_len is_separator) past) ∙ apart_again (drop end bytes);
       forward = λ ts h.
-        let here : Lexes file end (drop end bytes) ts = skip_forward file end (drop end bytes) ts (subst (λ (r : List ℕ). Lexes file (end + n) r ts) (sym past) h) in
-        let first : Lexes file at (drop at bytes) (token ∷ ts) = take_forward file at (drop at bytes) f ts is (subst (λ (r : List ℕ). Lexes file end r ts) (sym behind) here) in
-        subst (λ (us : List Token). Lexes file 0 bytes us) (sym (append_assoc tokens (token ∷ []) ts)) (led.forward (token ∷ ts) first);
+          let here : Lexes file end (drop end bytes) ts = skip_forward file end (drop end bytes) ts (subst (λ (r : List ℕ). Lexes file (end + n) r ts) (sym past) h) in
+          let first : Lexes file at (drop at bytes) (token ∷ ts) = take_forward file at (drop at bytes) f ts is (subst (λ (r : List ℕ). Lexes file end r ts) (sym behind) here) in
+          subst (λ (us : List Token). Lexes file 0 bytes us) (sym (append_assoc tokens (token ∷ []) ts)) (led.forward (token ∷ ts) first);
       backward = λ ts h.
-        let back = led.backward ts h in
-        let on = goes_on file at (drop at bytes) f back.0 led.apart is back.2 in
-        let here : Lexes file end (drop end bytes) on.0 = subst (λ (r : List ℕ). Lexes file end r on.0) behind on.2 in
-        (on.0,
-          back.1 ∙ ap (λ us. tokens ++ us) on.1 ∙ sym (append_assoc tokens (token ∷ []) on.0),
-          subst (λ (r : List ℕ). Lexes file (end + n) r on.0) past (skip_backward file end (drop end bytes) on.0 here)) }
+          let back = led.backward ts h in
+          let on = goes_on file at (drop at bytes) f back.0 led.apart is back.2 in
+          let here : Lexes file end (drop end bytes) on.0 = subst (λ (r : List ℕ). Lexes file end r on.0) behind on.2 in (
+            on.0,
+            back.1 ∙ ap (λ us. tokens ++ us) on.1 ∙ sym (append_assoc tokens (token ∷ []) on.0),
+            subst (λ (r : List ℕ). Lexes file (end + n) r on.0) past (skip_backward file end (drop end bytes) on.0 here),
+          );
+    }
 
 -- at the end the tokens are all
 pub led_end : (file : ℕ) (bytes : List ℕ) (tokens : List Token) (at : ℕ) → Led file bytes tokens at → length bytes ≤ at → Lexes file 0 bytes tokens

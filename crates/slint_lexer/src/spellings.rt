@@ -95,10 +95,7 @@ fn symbol(byte: u8) -> Option<TokenKind>
 }
 
 /// The token that the bytes begin with, the longest one, if they begin with one: its kind, and how many bytes spell it.
-pub(crate) fn front_token(
-    alloc: Global,
-    bytes: &[u8],
-) -> Result<Option<(TokenKind, usize)>, Memory>
+pub(crate) fn front_token(alloc: Global, bytes: &[u8]) -> Result<Option<(TokenKind, usize)>, Memory>
     ensures within { IfOk result (λ found. IfSome found (λ token. (0 < token.1) × (token.1 ≤ length bytes.now))) }
     ensures token { IfOk result (λ found. found ≡ front_token bytes.now) }
 {

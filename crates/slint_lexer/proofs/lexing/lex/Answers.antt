@@ -1,4 +1,3 @@
-use Rattle.std.proofs.Common.{◌≡◌, ℕ, arith, rules}
 use Rattle.slint_lexer.proofs.Progress.{led_init, led_push, led_end, led_fault}
 use Rattle.slint_lexer.proofs.lexing.lex.Goals as goal
 

@@ -1,4 +1,4 @@
-use Rattle.std.proofs.Common.{sym, ◌∙◌}
+use Rattle.std.proofs.Common.{sym}
 use Rattle.slint_lexer.proofs.Front.{ascii_name, digits_first}
 use Rattle.slint_lexer.proofs.spellings.front_token.Goals as goal
 
