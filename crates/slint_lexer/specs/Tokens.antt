@@ -1,8 +1,12 @@
 -- Which tokens a source's bytes are.
-use Rattle.std.specs.Prelude.{◌≡◌, ℕ, ◌+◌, List, [], ◌∷◌, ◌++◌, length, IsTrue}
+use Rattle.std.specs.Prelude.{◌≡◌, ℕ, ◌+◌, List, [], ◌∷◌, ◌++◌, length, IsTrue, ⊤}
 use Rattle.std.specs.List.{list_all}
 use Rattle.slint_base.specs.Names.{normal_name}
+use Rattle.slint_base.specs.declared.endings.End.{End}
+use Rattle.slint_base.specs.declared.endings.End.TheVariants as ends
+use Rattle.slint_base.specs.declared.faults.Fault.{Fault}
 use Rattle.slint_base.specs.declared.faults.Span.{Span}
+use Rattle.slint_base.specs.declared.rules.Rule.TheVariants.{NotBuilt}
 use Rattle.slint_lexer.specs.declared.tokens.Token.{Token}
 use Rattle.slint_lexer.specs.declared.tokens.TokenKind.{TokenKind}
 use Rattle.slint_lexer.specs.declared.tokens.TokenKind.TheVariants as kinds
@@ -41,3 +45,16 @@ pub record FrontToken (file at : ℕ) (bytes : List ℕ) (token : Token) (blank 
 abbrev pub Lexes : ℕ → ℕ → List ℕ → List Token → Type 0
 Lexes file at bytes [] = IsTrue (list_all is_separator bytes)
 Lexes file at bytes (token ∷ tokens) = (blank text rest : List ℕ) × FrontToken file at bytes token blank text rest × Lexes file (at + length blank + length text) rest tokens
+
+-- no tokens are these bytes
+abbrev pub NoTokens : ℕ → List ℕ → Type 0
+NoTokens file bytes = (tokens : List Token) → Lexes file 0 bytes tokens → ⊥
+
+-- the fault of a source outside the first language: an empty span at the file's first byte
+abbrev pub unbuilt : ℕ → Fault
+unbuilt file = record { rule = NotBuilt; span = record { file = file; start = 0; end = 0 } }
+
+-- why lexing ended without tokens: no tokens are these bytes, or memory ran out
+abbrev pub EndsLexing : ℕ → List ℕ → End Fault → Type 0
+EndsLexing file bytes (ends.Fault fault) = (fault ≡ unbuilt file) × NoTokens file bytes
+EndsLexing file bytes ends.Memory = ⊤

@@ -1,0 +1,4 @@
+pub mod Front
+pub mod Lexings
+pub mod Numbers
+pub mod Progress
