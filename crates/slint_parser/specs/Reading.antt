@@ -94,27 +94,39 @@ factor_at (token ∷ rest) = factor_of_kind token.kind token.span rest
 abbrev pub Next : Type 0 → Type 0
 Next A = List Token → Option (Read (A × List Token))
 
--- the items of a list of at most so many
+-- an item, and others that are read behind it
+abbrev pub and_others : {A : Type 0} → Read (A × List Token) → Reader (List A) → Read (List A × List Token)
+and_others item others = do
+  first ← item
+  more ← others first.1
+  Ok (first.0 ∷ more.0, more.1)
+
+-- the items of a list from a place where it ends or goes on
+abbrev pub go_on : {A : Type 0} → Option (Read (A × List Token)) → Reader (List A) → Reader (List A)
+go_on None others tokens = Ok ([], tokens)
+go_on (Some item) others tokens = and_others item others
+
+-- the items of a list of less than so many
 abbrev pub many : {A : Type 0} → Next A → ℕ → Reader (List A)
 many next zero tokens = refusal
-many next (suc n) tokens = elim (next tokens) [
-  None ↦ Ok ([], tokens) |
-  Some read ↦ read >>= λ item. many next n item.1 >>= λ others. Ok (item.0 ∷ others.0, others.1) ]
+many next (suc n) tokens = go_on (next tokens) (many next n) tokens
 
 -- the items of a list, each of which takes a token or more
 unfoldable pub list_at : {A : Type 0} → Next A → Reader (List A)
 list_at next tokens = many next (suc (length tokens)) tokens
 
+-- the item that is read where something was
+abbrev pub item_after : {A : Type 0} → Reader A → Read (List Token) → Option (Read (A × List Token))
+item_after item (Ok after) = Some (item after)
+item_after item (Err e) = None
+
 -- a list goes on behind a sign
 unfoldable pub behind : {A : Type 0} → ℕ → Reader A → Next A
-behind sign item tokens = elim (sign_at sign tokens) [ Ok after ↦ Some (item after) | Err e ↦ None ]
+behind sign item tokens = item_after item (sign_at sign tokens)
 
 -- an item, and others behind a sign each
 unfoldable pub separated_at : {A : Type 0} → ℕ → Reader A → Reader (List A)
-separated_at sign item tokens = do
-  first ← item tokens
-  others ← list_at (behind sign item) first.1
-  Ok (first.0 ∷ others.0, others.1)
+separated_at sign item tokens = and_others (item tokens) (list_at (behind sign item))
 
 -- a product
 unfoldable pub product_at : Reader (List Factor)
@@ -148,17 +160,26 @@ prop_at tokens = do
   value ← value_at named.1
   Ok (record { name = named.0.0; span = named.0.1; terms = value.0 }, value.1)
 
+-- the item that is read where nothing else was
+abbrev pub item_unless : {A : Type 0} → Reader A → List Token → Read (List Token) → Option (Read (A × List Token))
+item_unless item tokens (Ok after) = None
+item_unless item tokens (Err e) = Some (item tokens)
+
 -- a list goes on up to the closing brace
 unfoldable pub next_prop : Next FirstProp
-next_prop tokens = elim (sign_at 125 tokens) [ Ok after ↦ None | Err e ↦ Some (prop_at tokens) ]
+next_prop tokens = item_unless prop_at tokens (sign_at 125 tokens)
 
 -- the properties up to the closing brace
 unfoldable pub props_at : Reader (List FirstProp)
 props_at tokens = list_at next_prop tokens
 
+abbrev pub window_if : List Token → Read (List Token) → Read (List Token)
+window_if tokens (Ok base) = word_at (codes "Window") base
+window_if tokens (Err e) = Ok tokens
+
 -- the base, which may be left out
 unfoldable pub base_at : List Token → Read (List Token)
-base_at tokens = elim (word_at (codes "inherits") tokens) [ Ok base ↦ word_at (codes "Window") base | Err e ↦ Ok tokens ]
+base_at tokens = window_if tokens (word_at (codes "inherits") tokens)
 
 -- a component up to its opening brace
 unfoldable pub header_at : List Token → Read (List Token)
