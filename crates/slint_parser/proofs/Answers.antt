@@ -1,7 +1,11 @@
 -- What follows from a step that read something.
-use Rattle.std.proofs.Common.{◌≡◌, ℕ, Bool, true, false, cond, List, Result, Ok, Err, refl, ap}
+use Rattle.std.proofs.Common.{Bor, ◌≡◌, ℕ, Bool, true, false, cond, List, Result, Ok, Err, refl, ap}
+use Rattle.slint_base.specs.Answers.{Gives}
+use Rattle.slint_base.specs.declared.endings.End.{End}
+use Rattle.slint_base.specs.declared.endings.End.TheVariants as ends
+use Rattle.slint_lexer.specs.declared.tokens.Token.{Token}
 use Rattle.slint_parser.specs.declared.refusal.Underivable.{Underivable}
-use Rattle.slint_parser.specs.Reading.{Read, ◌>>=◌, refusal}
+use Rattle.slint_parser.specs.Reading.{Read, found, ◌>>=◌, refusal}
 
 -- the value of a step that read
 pub bind_ok : {A B : Type 0} (r : Read A) (f : A → Read B) (y : B) → (r >>= f) ≡ Ok y → (x : A) × (r ≡ Ok x) × (f x ≡ Ok y)
@@ -16,3 +20,9 @@ guard_ok false x y d e = absurd cc
 -- what was read is one value
 pub ok_is : {A : Type 0} (x y : A) → (let r : Read A = Ok x in r) ≡ Ok y → x ≡ y
 ok_is x y e = cc
+
+-- a part that was refused refuses the whole, and want of memory stays
+pub end_stays : {X Z : Type 0} (e : End Underivable) (part : Read (X × List Token)) (whole : Read (Z × List Token)) → (part ≡ refusal → whole ≡ refusal)
+    → Gives {X = X × Bor (List Token)} found (Err e) part → Gives {X = Z × Bor (List Token)} found (Err e) whole
+end_stays (ends.Fault f) part whole h g = h g
+end_stays ends.Memory part whole h g = tt

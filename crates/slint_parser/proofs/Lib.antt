@@ -1,3 +1,4 @@
 pub mod Answers
 pub mod OneToken
 pub mod Lists
+pub mod Sums

@@ -1,6 +1,7 @@
 -- Reading from left to right: what a part of the grammar gives at the tokens, with those after it, or that it gives nothing.
 -- The laws of proofs/ tell these from the grammar.
 use Rattle.std.specs.Prelude.{◌≡◌, ℕ, zero, suc, Bool, true, false, List, [], ◌∷◌, length, Option, Some, None, Result, Ok, Err, ◌==◌, if◌then◌else◌, codes}
+use Rattle.std.specs.Borrow.{Bor}
 use Rattle.std.specs.Str.{bytes_eq}
 use Rattle.slint_base.specs.declared.faults.Span.{Span}
 use Rattle.slint_lexer.specs.declared.tokens.Token.{Token}
@@ -33,6 +34,10 @@ abbrev pub ◌>>=◌ : {A B : Type 0} → Read A → (A → Read B) → Read B
 abbrev pub Reads : {X Y : Type 0} → (X → Y) → Read X → Read Y → Type 0
 Reads view (Ok x) given = given ≡ Ok (view x)
 Reads view (Err e) given = given ≡ Err e
+
+-- what was found, and the tokens that are left behind it
+abbrev pub found : {X : Type 0} → X × Bor (List Token) → X × List Token
+found f = (f.0, f.1.now)
 
 -- the sign alone spells the token
 abbrev pub is_sign : TokenKind → ℕ → Bool

@@ -1,6 +1,6 @@
 ghost use Rattle.std.specs.Prelude.{◌≡◌};
 ghost use Rattle.slint_base.specs.Answers.{Gives};
-ghost use Rattle.slint_parser.specs.Reading.{factor_at, product_at, sum_at};
+ghost use Rattle.slint_parser.specs.Reading.{found, factor_at, product_at, sum_at};
 
 use crate::refusal::Underivable;
 use crate::steps::past_sign;
@@ -13,7 +13,7 @@ use std::alloc::Global;
 #[tactic(auto, unfolding(crate::specs::Reading::factor_at))]
 /// The factor that the tokens begin with, and the tokens after it.
 fn factor_of(tokens: &[Token]) -> Result<(Factor, &[Token]), End<Underivable>>
-    ensures { Gives (λ found. (found.0, found.1.now)) result (factor_at tokens.now) }
+    ensures { Gives found result (factor_at tokens.now) }
 {
     let [token, rest @ ..] = tokens else {
         return Err(End::Fault(Underivable));
@@ -27,7 +27,7 @@ fn factor_of(tokens: &[Token]) -> Result<(Factor, &[Token]), End<Underivable>>
 
 /// The factors of the longest product that the tokens begin with, and the tokens after it.
 fn product_of(alloc: Global, tokens: &[Token]) -> Result<(Items<Factor>, &[Token]), End<Underivable>>
-    ensures { Gives (λ found. (found.0, found.1.now)) result (product_at tokens.now) }
+    ensures { Gives found result (product_at tokens.now) }
 {
     let (first, mut rest) = factor_of(tokens)?;
     let mut factors = Items::new(alloc);
@@ -42,7 +42,7 @@ fn product_of(alloc: Global, tokens: &[Token]) -> Result<(Items<Factor>, &[Token
 
 /// The terms of the longest sum that the tokens begin with, and the tokens after it.
 pub fn sum_of(alloc: Global, tokens: &[Token]) -> Result<(Terms, &[Token]), End<Underivable>>
-    ensures { Gives (λ found. (found.0, found.1.now)) result (sum_at tokens.now) }
+    ensures { Gives found result (sum_at tokens.now) }
 {
     let (first, mut rest) = product_of(alloc, tokens)?;
     let mut terms = Items::new(alloc);

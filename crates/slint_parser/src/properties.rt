@@ -1,6 +1,6 @@
 ghost use Rattle.std.specs.Prelude.{◌≡◌};
 ghost use Rattle.slint_base.specs.Answers.{Gives};
-ghost use Rattle.slint_parser.specs.Reading.{Reads, head_at, value_at, prop_at, props_at};
+ghost use Rattle.slint_parser.specs.Reading.{Reads, found, head_at, value_at, prop_at, props_at};
 
 use crate::expressions::sum_of;
 use crate::refusal::Underivable;
@@ -25,7 +25,7 @@ fn past_head(tokens: &[Token]) -> Result<&[Token], Underivable>
 #[tactic(auto, unfolding(crate::specs::Reading::value_at))]
 /// The sum between a colon and a semicolon, and the tokens after them.
 fn value_of(alloc: Global, tokens: &[Token]) -> Result<(Terms, &[Token]), End<Underivable>>
-    ensures { Gives (λ found. (found.0, found.1.now)) result (value_at tokens.now) }
+    ensures { Gives found result (value_at tokens.now) }
 {
     let rest = past_sign(tokens, ':')?;
     let (terms, rest) = sum_of(alloc, rest)?;
@@ -36,7 +36,7 @@ fn value_of(alloc: Global, tokens: &[Token]) -> Result<(Terms, &[Token]), End<Un
 #[tactic(auto, unfolding(crate::specs::Reading::prop_at))]
 /// The property that the tokens begin with, and the tokens after it.
 fn prop_of(alloc: Global, tokens: &[Token]) -> Result<(FirstProp, &[Token]), End<Underivable>>
-    ensures { Gives (λ found. (found.0, found.1.now)) result (prop_at tokens.now) }
+    ensures { Gives found result (prop_at tokens.now) }
 {
     let rest = past_head(tokens)?;
     let (name, span, rest) = name_of(rest)?;
@@ -47,7 +47,7 @@ fn prop_of(alloc: Global, tokens: &[Token]) -> Result<(FirstProp, &[Token]), End
 
 /// The properties up to the closing brace, and the tokens from that brace on.
 pub fn props_of(alloc: Global, tokens: &[Token]) -> Result<(FirstProps, &[Token]), End<Underivable>>
-    ensures { Gives (λ found. (found.0, found.1.now)) result (props_at tokens.now) }
+    ensures { Gives found result (props_at tokens.now) }
 {
     let mut props = Items::new(alloc);
     let mut rest = tokens;
