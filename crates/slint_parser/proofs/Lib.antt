@@ -2,3 +2,4 @@ pub mod Answers
 pub mod OneToken
 pub mod Lists
 pub mod Sums
+pub mod Heads
