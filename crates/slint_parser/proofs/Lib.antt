@@ -3,3 +3,4 @@ pub mod OneToken
 pub mod Lists
 pub mod Sums
 pub mod Heads
+pub mod Whole

@@ -94,6 +94,11 @@ chain_list next tokens (x ∷ xs) rest s c = list_more next tokens x c.0 s c.1 �
 abbrev pub with_front : {A : Type 0} → List A → Read (List A × List Token) → Read (List A × List Token)
 with_front front read = read >>= λ x. Ok (front ++ x.0, x.1)
 
+-- before the first item nothing was read
+pub with_none : {A : Type 0} (read : Read (List A × List Token)) → with_front [] read ≡ read
+with_none (Ok others) = refl
+with_none (Err d) = refl
+
 regroup : {A : Type 0} (front : List A) (x : A) (read : Read (List A × List Token)) → with_front front (read >>= λ others. Ok (x ∷ others.0, others.1)) ≡ with_front (front ++ x ∷ []) read
 regroup {A = A} front x (Ok others) = ap (λ (xs : List A). Ok (xs, others.1)) (simp append_assoc)
 regroup front x (Err d) = refl
