@@ -77,7 +77,7 @@ value_parts tokens terms rest e =
     let found = bind_ok (sum_at sum.0) (λ x. sign_at 59 x.1 >>= λ r. Ok (x.0, r)) (terms, rest) sum.2 in
     let end = bind_ok (sign_at 59 found.0.1) (λ r. Ok (found.0.0, r)) (terms, rest) found.2 in
     let P : (List (List Factor) × List Token) → Type 0 = λ p. Value tokens p.0 p.1 in
-    subst P (ok_is (found.0.0, end.0) (terms, rest) end.2) (record {
+    subst P {x = (found.0.0, end.0)} {y = (terms, rest)} (ok_is (found.0.0, end.0) (terms, rest) end.2) (record {
       sum = sum.0; semicolon = found.0.1;
       takes_colon = sign_sound 58 tokens sum.0 sum.1;
       terms_read = found.1;
@@ -109,7 +109,7 @@ prop_parts tokens prop rest e =
     let named = bind_ok (name_at name.0) (λ n. value_at n.1 >>= λ v. Ok ((let p : FirstProp = record { name = n.0.0; span = n.0.1; terms = v.0 } in p), v.1)) (prop, rest) name.2 in
     let value = bind_ok (value_at named.0.1) (λ v. Ok ((let p : FirstProp = record { name = named.0.0.0; span = named.0.0.1; terms = v.0 } in p), v.1)) (prop, rest) named.2 in
     let P : (FirstProp × List Token) → Type 0 = λ p. Parts tokens p.0 p.1 in
-    subst P (ok_is (record { name = named.0.0.0; span = named.0.0.1; terms = value.0.0 }, value.0.1) (prop, rest) value.2) (record {
+    subst P {x = ((let p : FirstProp = record { name = named.0.0.0; span = named.0.0.1; terms = value.0.0 } in p), value.0.1)} {y = (prop, rest)} (ok_is (record { name = named.0.0.0; span = named.0.0.1; terms = value.0.0 }, value.0.1) (prop, rest) value.2) (record {
       name = name.0; colon = named.0.1;
       head = head_sound tokens name.0 name.1;
       takes_name = name_sound name.0 named.0.0 named.0.1 named.1;

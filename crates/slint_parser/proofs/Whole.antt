@@ -6,7 +6,7 @@ use Rattle.slint_lexer.specs.declared.tokens.Token.{Token}
 use Rattle.slint_lexer.specs.declared.tokens.TokenKind.TheVariants as kinds
 use Rattle.slint_parser.specs.declared.trees.FirstProp.{FirstProp}
 use Rattle.slint_parser.specs.declared.trees.FirstFile.{FirstFile}
-use Rattle.slint_parser.specs.Grammar.{Takes, TakesWord, MayTakeWord, DerivesBase, DerivesProps, DerivesFile}
+use Rattle.slint_parser.specs.Grammar.{Takes, TakesWord, MayTakeWord, DerivesBase, DerivesProps, DerivesFile, NoTree}
 use Rattle.slint_parser.specs.Reading.{Read, ◌>>=◌, refusal, sign_at, word_at, optional_word_at, name_at, props_at, window_if, base_at, header_at, if_ended, file_at}
 use Rattle.slint_parser.proofs.Answers.{bind_ok, ok_is}
 use Rattle.slint_parser.proofs.OneToken.{sign_sound, sign_again, word_sound, word_again, word_refused, optional_sound, optional_again, name_sound, name_again}
@@ -103,3 +103,7 @@ file_again tokens file d =
 -- tokens have at most one tree
 pub one_tree : (tokens : List Token) (a b : FirstFile) → DerivesFile tokens a → DerivesFile tokens b → a ≡ b
 one_tree tokens a b d e = ok_is a b (sym (file_again tokens a d) ∙ file_again tokens b e)
+
+-- where nothing is read no tree is derived
+pub no_tree : (tokens : List Token) → file_at tokens ≡ refusal → NoTree tokens
+no_tree tokens e file d = let again = file_again tokens file d in absurd cc
