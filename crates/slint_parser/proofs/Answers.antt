@@ -1,5 +1,5 @@
 -- What follows from a step that read something.
-use Rattle.std.proofs.Common.{Bor, ◌≡◌, ℕ, Bool, true, false, cond, List, Result, Ok, Err, refl, ap}
+use Rattle.std.proofs.Common.{Bor, ◌≡◌, Bool, true, false, cond, List, Ok, Err, refl}
 use Rattle.std.specs.Prelude.{is_err}
 use Rattle.slint_base.specs.Answers.{Gives}
 use Rattle.slint_base.specs.declared.endings.End.{End}

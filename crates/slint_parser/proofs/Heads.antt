@@ -1,13 +1,12 @@
 -- Properties: what is read is derived, and what is derived is read.
-use Rattle.std.proofs.Common.{◌≡◌, ℕ, ◌<◌, ◌≤◌, List, [], ◌∷◌, length, Option, Some, None, Result, Ok, Err, refl, sym, ap, subst, ◌∙◌, arith, inl, inr}
+use Rattle.std.proofs.Common.{◌≡◌, ℕ, ◌<◌, ◌≤◌, List, [], ◌∷◌, length, Some, None, Ok, Err, refl, ap, subst, ◌∙◌, arith, inl, inr}
 use Rattle.std.specs.Prelude.{codes}
-use Rattle.slint_base.specs.declared.faults.Span.{Span}
 use Rattle.slint_lexer.specs.declared.tokens.Token.{Token}
 use Rattle.slint_lexer.specs.declared.tokens.TokenKind.TheVariants as kinds
 use Rattle.slint_parser.specs.declared.trees.Factor.{Factor}
 use Rattle.slint_parser.specs.declared.trees.FirstProp.{FirstProp}
 use Rattle.slint_parser.specs.Grammar.{TakesAt, Takes, TakesWord, MayTakeWord, DerivesSum, DerivesHead, DerivesProp, DerivesProps}
-use Rattle.slint_parser.specs.Reading.{Read, ◌>>=◌, refusal, sign_at, word_at, optional_word_at, name_at, sum_at, head_at, value_at, prop_at, item_unless, next_prop, list_at, props_at}
+use Rattle.slint_parser.specs.Reading.{Read, ◌>>=◌, refusal, sign_at, word_at, optional_word_at, name_at, sum_at, head_at, value_at, prop_at, item_unless, next_prop, props_at}
 use Rattle.slint_parser.proofs.Answers.{bind_ok, ok_is}
 use Rattle.slint_parser.proofs.OneToken.{sign_sound, sign_again, sign_refused, word_sound, word_again, optional_sound, optional_again, name_sound, name_again, Takes-shorter}
 use Rattle.slint_parser.proofs.Lists.{IsShorter, Shrinks, Chain, list_chain, chain_list}
@@ -23,7 +22,10 @@ head_sound tokens rest e =
     let ty = bind_ok (sign_at 60 less.0) (λ ts. word_at (codes "int") ts >>= λ greater. sign_at 62 greater) rest less.2 in
     let greater = bind_ok (word_at (codes "int") ty.0) (λ ts. sign_at 62 ts) rest ty.2 in
     record {
-      word = word; less = less.0; ty = ty.0; greater = greater.0;
+      word = word;
+      less = less.0;
+      ty = ty.0;
+      greater = greater.0;
       mark = optional_sound (codes "in-out") tokens;
       takes_word = word_sound (codes "property") word less.0 less.1;
       takes_less = sign_sound 60 less.0 ty.0 ty.1;
@@ -34,10 +36,12 @@ head_sound tokens rest e =
 head_again : (tokens rest : List Token) → DerivesHead tokens rest → head_at tokens ≡ Ok rest
 unfolding head_at
 head_again tokens rest d =
-    rw (optional_again (codes "in-out") (kinds.Id (codes "property")) tokens d.word d.less refl d.takes_word d.mark,
+    rw (
+      optional_again (codes "in-out") (kinds.Id (codes "property")) tokens d.word d.less refl d.takes_word d.mark,
       word_again (codes "property") d.word d.less d.takes_word,
       sign_again 60 kinds.Less d.less d.ty refl d.takes_less,
-      word_again (codes "int") d.ty d.greater d.takes_type) (sign_again 62 kinds.Greater d.greater rest refl d.takes_greater)
+      word_again (codes "int") d.ty d.greater d.takes_type,
+    ) (sign_again 62 kinds.Greater d.greater rest refl d.takes_greater)
 
 MayTakeWord-shorter : (word : List ℕ) (tokens rest : List Token) → MayTakeWord word tokens rest → length rest ≤ length tokens
 MayTakeWord-shorter word tokens rest (inl t) = let lt = Takes-shorter (kinds.Id word) tokens rest t in omega arith
@@ -78,7 +82,8 @@ value_parts tokens terms rest e =
     let end = bind_ok (sign_at 59 found.0.1) (λ r. Ok (found.0.0, r)) (terms, rest) found.2 in
     let P : (List (List Factor) × List Token) → Type 0 = λ p. Value tokens p.0 p.1 in
     subst P {x = (found.0.0, end.0)} {y = (terms, rest)} (ok_is (found.0.0, end.0) (terms, rest) end.2) (record {
-      sum = sum.0; semicolon = found.0.1;
+      sum = sum.0;
+      semicolon = found.0.1;
       takes_colon = sign_sound 58 tokens sum.0 sum.1;
       terms_read = found.1;
       takes_semicolon = sign_sound 59 found.0.1 end.0 end.1;
@@ -88,9 +93,11 @@ value_again : (tokens sum : List Token) (terms : List (List Factor)) (semicolon 
     → value_at tokens ≡ Ok (terms, rest)
 unfolding value_at
 value_again tokens sum terms semicolon rest colon d end =
-    rw (sign_again 58 kinds.Colon tokens sum refl colon,
+    rw (
+      sign_again 58 kinds.Colon tokens sum refl colon,
       sum_again sum terms semicolon (sign_refused 42 kinds.Semicolon semicolon rest refl end) (sign_refused 43 kinds.Semicolon semicolon rest refl end) d,
-      sign_again 59 kinds.Semicolon semicolon rest refl end) refl
+      sign_again 59 kinds.Semicolon semicolon rest refl end,
+    ) refl
 
 -- ---- properties
 
@@ -110,7 +117,8 @@ prop_parts tokens prop rest e =
     let value = bind_ok (value_at named.0.1) (λ v. Ok ((let p : FirstProp = record { name = named.0.0.0; span = named.0.0.1; terms = v.0 } in p), v.1)) (prop, rest) named.2 in
     let P : (FirstProp × List Token) → Type 0 = λ p. Parts tokens p.0 p.1 in
     subst P {x = ((let p : FirstProp = record { name = named.0.0.0; span = named.0.0.1; terms = value.0.0 } in p), value.0.1)} {y = (prop, rest)} (ok_is (record { name = named.0.0.0; span = named.0.0.1; terms = value.0.0 }, value.0.1) (prop, rest) value.2) (record {
-      name = name.0; colon = named.0.1;
+      name = name.0;
+      colon = named.0.1;
       head = head_sound tokens name.0 name.1;
       takes_name = name_sound name.0 named.0.0 named.0.1 named.1;
       value = value_parts named.0.1 value.0.0 value.0.1 value.1;
@@ -120,7 +128,10 @@ prop_sound : (tokens : List Token) (prop : FirstProp) (rest : List Token) → pr
 prop_sound tokens prop rest e =
     let p = prop_parts tokens prop rest e in
     record {
-      name = p.name; colon = p.colon; sum = p.value.sum; semicolon = p.value.semicolon;
+      name = p.name;
+      colon = p.colon;
+      sum = p.value.sum;
+      semicolon = p.value.semicolon;
       head = p.head;
       takes_name = p.takes_name;
       takes_colon = p.value.takes_colon;
@@ -141,9 +152,11 @@ prop_shorter tokens prop rest e =
 prop_again : (tokens : List Token) (prop : FirstProp) (rest : List Token) → DerivesProp tokens prop rest → prop_at tokens ≡ Ok (prop, rest)
 unfolding prop_at
 prop_again tokens prop rest d =
-    rw (head_again tokens d.name d.head,
+    rw (
+      head_again tokens d.name d.head,
       name_again d.name prop.name prop.span d.colon d.takes_name,
-      value_again d.colon d.sum prop.terms d.semicolon rest d.takes_colon d.value d.takes_semicolon) refl
+      value_again d.colon d.sum prop.terms d.semicolon rest d.takes_colon d.value d.takes_semicolon,
+    ) refl
 
 -- ---- lists of properties
 

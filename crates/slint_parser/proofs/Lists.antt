@@ -1,8 +1,8 @@
 -- Lists of items: what is read is a chain of items to where the list ends, and such a chain is read.
-use Rattle.std.proofs.Common.{◌≡◌, ℕ, zero, suc, ◌<◌, ◌≤◌, List, [], ◌∷◌, ◌++◌, length, Option, Some, None, Result, Ok, Err, refl, sym, ap, subst, ◌∙◌, append_assoc, arith}
+use Rattle.std.proofs.Common.{◌≡◌, ℕ, zero, suc, ◌<◌, ◌≤◌, List, [], ◌∷◌, ◌++◌, length, Option, Some, None, Ok, Err, refl, sym, ap, subst, ◌∙◌, append_assoc, arith}
 use Rattle.std.proofs.lemmas.List.{append-nil}
 use Rattle.slint_lexer.specs.declared.tokens.Token.{Token}
-use Rattle.slint_parser.specs.Reading.{Read, Reader, ◌>>=◌, refusal, Next, and_others, go_on, many, list_at, item_after, sign_at, behind, separated_at}
+use Rattle.slint_parser.specs.Reading.{Read, Reader, ◌>>=◌, refusal, Next, go_on, many, list_at, item_after, sign_at, behind, separated_at}
 use Rattle.slint_parser.proofs.Answers.{bind_ok, ok_is}
 use Rattle.slint_parser.proofs.OneToken.{sign_kind, sign_sound, Takes-shorter}
 

@@ -1,8 +1,7 @@
 -- One token: what is read there stands there, and what stands there is read.
-use Rattle.std.proofs.Common.{◌≡◌, ℕ, suc, ◌<◌, ◌≤◌, Bool, true, false, cond, eqb, List, [], ◌∷◌, length, Result, Ok, Err, refl, sym, ap, subst, ◌∙◌, arith, inl, inr}
-use Rattle.std.specs.Prelude.{◌==◌, if◌then◌else◌, ◌⊎◌}
+use Rattle.std.proofs.Common.{◌≡◌, ℕ, ◌<◌, true, false, eqb, List, [], ◌∷◌, length, Ok, Err, refl, sym, ap, subst, ◌∙◌, arith, inl, inr}
+use Rattle.std.specs.Prelude.{◌==◌, if◌then◌else◌}
 use Rattle.std.proofs.lemmas.Bool.{eqb-true}
-use Rattle.std.specs.Str.{bytes_eq}
 use Rattle.std.proofs.lemmas.Slice.Eq.{bytes_eq-Decides}
 use Rattle.slint_base.specs.declared.faults.Span.{Span}
 use Rattle.slint_lexer.specs.declared.tokens.Token.{Token}
@@ -11,7 +10,7 @@ use Rattle.slint_lexer.specs.declared.tokens.TokenKind.TheVariants as kinds
 use Rattle.slint_parser.specs.declared.trees.Factor.{Factor}
 use Rattle.slint_parser.specs.declared.trees.Factor.TheVariants as factors
 use Rattle.slint_parser.specs.Grammar.{TakesAt, Takes, TakesWord, MayTakeWord, DerivesFactor}
-use Rattle.slint_parser.specs.Reading.{Read, ◌>>=◌, refusal, is_sign, is_word, sign_at, word_at, or_else, optional_word_at, name_of_kind, name_at, factor_of_kind, factor_at}
+use Rattle.slint_parser.specs.Reading.{Read, refusal, is_sign, is_word, sign_at, word_at, or_else, optional_word_at, name_of_kind, name_at, factor_of_kind, factor_at}
 use Rattle.slint_parser.proofs.Answers.{guard_ok, ok_is}
 
 -- the kind of token that a sign spells

@@ -1,10 +1,10 @@
 -- Products and sums: what is read is derived, and what is derived is read, if no operator follows.
-use Rattle.std.proofs.Common.{◌≡◌, ℕ, ◌<◌, List, [], ◌∷◌, length, Option, Some, None, Result, Ok, Err, refl, sym, ap, subst, ◌∙◌, arith}
+use Rattle.std.proofs.Common.{◌≡◌, List, [], ◌∷◌, Some, Ok, refl, ap, subst, ◌∙◌}
 use Rattle.slint_lexer.specs.declared.tokens.Token.{Token}
 use Rattle.slint_lexer.specs.declared.tokens.TokenKind.TheVariants as kinds
 use Rattle.slint_parser.specs.declared.trees.Factor.{Factor}
-use Rattle.slint_parser.specs.Grammar.{Takes, DerivesFactor, DerivesProduct, DerivesSum}
-use Rattle.slint_parser.specs.Reading.{Read, Reader, refusal, sign_at, factor_at, behind, separated_at, product_at, sum_at}
+use Rattle.slint_parser.specs.Grammar.{DerivesFactor, DerivesProduct, DerivesSum}
+use Rattle.slint_parser.specs.Reading.{Read, refusal, sign_at, factor_at, behind, product_at, sum_at}
 use Rattle.slint_parser.proofs.OneToken.{sign_sound, sign_again, sign_refused, factor_sound, factor_again, factor_shorter}
 use Rattle.slint_parser.proofs.Lists.{IsShorter, Chain, Separated, separated_is, separated_again, separated_refused, behind_some, behind_again, behind_none, IsShorter-separated}
 

@@ -1,7 +1,6 @@
 -- Files: what is read is derived, and what is derived is read.
-use Rattle.std.proofs.Common.{◌≡◌, ℕ, List, [], ◌∷◌, Result, Ok, Err, refl, sym, ap, subst, ◌∙◌, inl, inr}
+use Rattle.std.proofs.Common.{◌≡◌, ℕ, List, [], ◌∷◌, Ok, Err, refl, sym, ap, subst, ◌∙◌, inl, inr}
 use Rattle.std.specs.Prelude.{codes}
-use Rattle.slint_base.specs.declared.faults.Span.{Span}
 use Rattle.slint_lexer.specs.declared.tokens.Token.{Token}
 use Rattle.slint_lexer.specs.declared.tokens.TokenKind.TheVariants as kinds
 use Rattle.slint_parser.specs.declared.trees.FirstProp.{FirstProp}
@@ -52,7 +51,11 @@ header_sound tokens body e =
     let named = bind_ok (name_at name.0) (λ n. base_at n.1 >>= λ brace. sign_at 123 brace) body name.2 in
     let brace = bind_ok (base_at named.0.1) (λ ts. sign_at 123 ts) body named.2 in
     record {
-      word = word; name = name.0; base = named.0.1; brace = brace.0; component = named.0.0.0;
+      word = word;
+      name = name.0;
+      base = named.0.1;
+      brace = brace.0;
+      component = named.0.0.0;
       mark = optional_sound (codes "export") tokens;
       takes_word = word_sound (codes "component") word name.0 name.1;
       takes_name = (named.0.0.1, name_sound name.0 named.0.0 named.0.1 named.1);
@@ -63,10 +66,12 @@ header_sound tokens body e =
 header_again : (tokens : List Token) (file : FirstFile) (d : DerivesFile tokens file) → header_at tokens ≡ Ok d.body
 unfolding header_at
 header_again tokens file d =
-    rw (optional_again (codes "export") (kinds.Id (codes "component")) tokens d.word d.name refl d.takes_word d.mark,
+    rw (
+      optional_again (codes "export") (kinds.Id (codes "component")) tokens d.word d.name refl d.takes_word d.mark,
       word_again (codes "component") d.word d.name d.takes_word,
       name_again d.name d.component d.takes_name.0 d.base d.takes_name.1,
-      base_again d.base d.brace d.body d.takes_open d.takes_base) (sign_again 123 kinds.OpenBrace d.brace d.body refl d.takes_open)
+      base_again d.base d.brace d.body d.takes_open d.takes_base,
+    ) (sign_again 123 kinds.OpenBrace d.brace d.body refl d.takes_open)
 
 -- ---- files
 
@@ -84,7 +89,13 @@ file_sound tokens file e =
     let end = ended props.0.0 rest.0 file rest.2 in
     let h = header_sound tokens body.0 body.1 in
     record {
-      word = h.word; name = h.name; base = h.base; brace = h.brace; body = body.0; close = props.0.1; component = h.component;
+      word = h.word;
+      name = h.name;
+      base = h.base;
+      brace = h.brace;
+      body = body.0;
+      close = props.0.1;
+      component = h.component;
       mark = h.mark;
       takes_word = h.takes_word;
       takes_name = h.takes_name;

@@ -10,8 +10,8 @@ use slint_lexer::{Token, TokenKind};
 use sqlite_items::Items;
 use std::alloc::Global;
 
-#[tactic(auto, unfolding(crate::specs::Reading::factor_at))]
 /// The factor that the tokens begin with, and the tokens after it.
+#[tactic(auto, unfolding(crate::specs::Reading::factor_at))]
 fn factor_of(tokens: &[Token]) -> Result<(Factor, &[Token]), End<Underivable>>
     ensures { Gives found result (factor_at tokens.now) }
 {
@@ -26,7 +26,10 @@ fn factor_of(tokens: &[Token]) -> Result<(Factor, &[Token]), End<Underivable>>
 }
 
 /// The factors of the longest product that the tokens begin with, and the tokens after it.
-fn product_of(alloc: Global, tokens: &[Token]) -> Result<(Items<Factor>, &[Token]), End<Underivable>>
+fn product_of(
+    alloc: Global,
+    tokens: &[Token],
+) -> Result<(Items<Factor>, &[Token]), End<Underivable>>
     ensures { Gives found result (product_at tokens.now) }
 {
     let (first, mut rest) = factor_of(tokens)?;

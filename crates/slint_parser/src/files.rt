@@ -13,8 +13,8 @@ use slint_base::{End, Memory};
 use slint_lexer::Token;
 use std::alloc::Global;
 
-#[tactic(auto, unfolding(crate::specs::Reading::base_at))]
 /// The tokens after `inherits Window`, which may be left out.
+#[tactic(auto, unfolding(crate::specs::Reading::base_at))]
 fn past_base(tokens: &[Token]) -> Result<&[Token], Underivable>
     ensures { Reads (λ rest. rest.now) result (base_at tokens.now) }
 {
@@ -24,8 +24,8 @@ fn past_base(tokens: &[Token]) -> Result<&[Token], Underivable>
     }
 }
 
-#[tactic(auto, unfolding(crate::specs::Reading::header_at))]
 /// The tokens after a component's opening brace.
+#[tactic(auto, unfolding(crate::specs::Reading::header_at))]
 fn past_header(tokens: &[Token]) -> Result<&[Token], Underivable>
     ensures { Reads (λ rest. rest.now) result (header_at tokens.now) }
 {
@@ -35,8 +35,8 @@ fn past_header(tokens: &[Token]) -> Result<&[Token], Underivable>
     past_sign(rest, '{')
 }
 
-#[tactic(auto, unfolding(crate::specs::Reading::file_at))]
 /// The tree that the tokens derive, all of the tokens.
+#[tactic(auto, unfolding(crate::specs::Reading::file_at))]
 fn file_of(alloc: Global, tokens: &[Token]) -> Result<FirstFile, End<Underivable>>
     ensures { Gives (λ file. file) result (file_at tokens.now) }
 {
@@ -51,8 +51,9 @@ fn file_of(alloc: Global, tokens: &[Token]) -> Result<FirstFile, End<Underivable
 
 /// The tree of a file of one component, or `None` where the tokens derive none.
 ///
-/// A file is `component`, which `export` may precede, a name, `inherits Window`, which may be left out, and the properties
-/// in braces. Nothing may follow the closing brace.
+/// A file is `component`, which `export` may precede, a name, then `inherits Window`, which may be left out, and properties
+/// in braces; nothing follows the closing brace. A property is `property < int >`, which `in-out` may precede, its name, and
+/// between `:` and `;` a sum of products of numbers and names. No word is reserved: a component may be called `inherits`.
 ///
 /// # Errors
 ///
@@ -70,8 +71,7 @@ pub fn parse_first(alloc: Global, tokens: &[Token]) -> Result<Option<FirstFile>,
     }
 }
 
-/// The law that tokens have at most one tree.
+/// A law, which does nothing when it is called: tokens have at most one tree.
 pub fn one_tree()
     ensures { (tokens : List Token) (a b : FirstFile) → DerivesFile tokens a → DerivesFile tokens b → a ≡ b }
-{
-}
+{}

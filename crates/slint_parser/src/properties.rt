@@ -11,8 +11,8 @@ use slint_lexer::Token;
 use sqlite_items::Items;
 use std::alloc::Global;
 
-#[tactic(auto, unfolding(crate::specs::Reading::head_at))]
 /// The tokens after `in-out property < int >`, whose mark may be left out.
+#[tactic(auto, unfolding(crate::specs::Reading::head_at))]
 fn past_head(tokens: &[Token]) -> Result<&[Token], Underivable>
     ensures { Reads (λ rest. rest.now) result (head_at tokens.now) }
 {
@@ -22,8 +22,8 @@ fn past_head(tokens: &[Token]) -> Result<&[Token], Underivable>
     past_sign(rest, '>')
 }
 
-#[tactic(auto, unfolding(crate::specs::Reading::value_at))]
 /// The sum between a colon and a semicolon, and the tokens after them.
+#[tactic(auto, unfolding(crate::specs::Reading::value_at))]
 fn value_of(alloc: Global, tokens: &[Token]) -> Result<(Terms, &[Token]), End<Underivable>>
     ensures { Gives found result (value_at tokens.now) }
 {
@@ -33,8 +33,8 @@ fn value_of(alloc: Global, tokens: &[Token]) -> Result<(Terms, &[Token]), End<Un
     Ok((terms, rest))
 }
 
-#[tactic(auto, unfolding(crate::specs::Reading::prop_at))]
 /// The property that the tokens begin with, and the tokens after it.
+#[tactic(auto, unfolding(crate::specs::Reading::prop_at))]
 fn prop_of(alloc: Global, tokens: &[Token]) -> Result<(FirstProp, &[Token]), End<Underivable>>
     ensures { Gives found result (prop_at tokens.now) }
 {

@@ -32,8 +32,8 @@ fn is_word(kind: &TokenKind, word: &str) -> bool
     }
 }
 
+/// The tokens after the sign that they begin with; `Underivable` where they begin otherwise.
 #[tactic(auto, unfolding(crate::specs::Reading::sign_at))]
-/// The tokens after the sign that they begin with.
 pub fn past_sign(tokens: &[Token], sign: char) -> Result<&[Token], Underivable>
     ensures { Reads (λ rest. rest.now) result (sign_at sign tokens.now) }
 {
@@ -43,8 +43,8 @@ pub fn past_sign(tokens: &[Token], sign: char) -> Result<&[Token], Underivable>
     }
 }
 
+/// The tokens after the word that they begin with; `Underivable` where they begin otherwise.
 #[tactic(auto, unfolding(crate::specs::Reading::word_at))]
-/// The tokens after the word that they begin with.
 pub fn past_word<'a>(tokens: &'a [Token], word: &str) -> Result<&'a [Token], Underivable>
     ensures { Reads (λ rest. rest.now) result (word_at word.now tokens.now) }
 {
@@ -54,15 +54,16 @@ pub fn past_word<'a>(tokens: &'a [Token], word: &str) -> Result<&'a [Token], Und
     }
 }
 
-/// The tokens after the word, which may be left out.
+/// The tokens after the word, which may be left out: then all of them.
 pub fn past_optional_word<'a>(tokens: &'a [Token], word: &str) -> &'a [Token]
     ensures { result.now ≡ optional_word_at word.now tokens.now }
 {
     past_word(tokens, word).unwrap_or(tokens)
 }
 
+/// The name that the tokens begin with, the stretch that spells it, and the tokens after it; `Underivable` where they begin
+/// otherwise.
 #[tactic(auto, unfolding(crate::specs::Reading::name_at))]
-/// The name that the tokens begin with, the stretch that spells it, and the tokens after it.
 pub fn name_of(tokens: &[Token]) -> Result<(&Name, Span, &[Token]), Underivable>
     ensures { Reads (λ found. ((found.0.now, found.1), found.2.now)) result (name_at tokens.now) }
 {

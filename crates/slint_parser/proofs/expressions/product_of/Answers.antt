@@ -1,8 +1,7 @@
-use Rattle.std.proofs.Common.{◌≡◌, ℕ, ◌+◌, ◌<◌, length, List, [], ◌∷◌, ◌++◌, Ok, Err, Some, None, refl, sym, ap, ◌∙◌, arith}
+use Rattle.std.proofs.Common.{◌≡◌, List, [], ◌∷◌, ◌++◌, Some, ap, ◌∙◌}
 use Rattle.std.proofs.lemmas.Result.{err_from_is_err_and}
-use Rattle.slint_base.specs.Answers.{Gives}
 use Rattle.slint_parser.specs.declared.trees.Factor.{Factor}
-use Rattle.slint_parser.specs.Reading.{Read, Reader, refusal, sign_at, factor_at, product_at, behind, list_at}
+use Rattle.slint_parser.specs.Reading.{Read, factor_at, product_at, behind}
 use Rattle.slint_parser.proofs.Answers.{end_stays}
 use Rattle.slint_parser.proofs.OneToken.{factor_shorter}
 use Rattle.slint_parser.proofs.Lists.{Shrinks-behind, behind_again, behind_none, goes_on, is_done, is_refused, separated_first}
@@ -25,8 +24,8 @@ returns-in_err-factor c =
     let p = err_from_is_err_and c.from_residual-in_err-factor.result c.from_residual-in_err-factor.ensures.1 in
     let read = behind_again 42 factor_at c.loop-after.rest.now c.in-Ok.after.now c.in-Ok.ensures in
     rw (p.1, p.2) (end_stays c.in_err-factor.field-0.0 (factor_at c.in-Ok.after.now) (product_at c.args.tokens.now)
-      (λ e. is_refused (behind 42 factor_at) c.loop-after.factors c.loop-after.rest.now (product_at c.args.tokens.now) (read ∙ ap (λ (r : Read _). Some r) e) c.loop-after.invariant)
-      c.in_err-factor.ensures)
+    (λ e. is_refused (behind 42 factor_at) c.loop-after.factors c.loop-after.rest.now (product_at c.args.tokens.now) (read ∙ ap (λ (r : Read _). Some r) e) c.loop-after.invariant)
+    c.in_err-factor.ensures)
 
 pub loop-after-smaller : goal.loop-after-smaller
 loop-after-smaller c =
@@ -37,7 +36,7 @@ pub loop-after-preserved : goal.loop-after-preserved
 loop-after-preserved c =
     let read = behind_again 42 factor_at c.loop-after.rest.now c.in-Ok.after.now c.in-Ok.ensures in
     rw c.in_ok-push-2.ensures.ok (goes_on (behind 42 factor_at) c.loop-after.factors c.loop-after.rest.now c.in_ok-factor.factor c.in_ok-factor.after.now (product_at c.args.tokens.now)
-      (Shrinks-behind 42 factor_at factor_shorter) (read ∙ ap (λ (r : Read _). Some r) c.in_ok-factor.ensures) c.loop-after.invariant)
+    (Shrinks-behind 42 factor_at factor_shorter) (read ∙ ap (λ (r : Read _). Some r) c.in_ok-factor.ensures) c.loop-after.invariant)
 
 pub returns : goal.returns
 returns c = is_done (behind 42 factor_at) c.loop-after.factors c.loop-after.rest.now (product_at c.args.tokens.now) (behind_none 42 factor_at c.loop-after.rest.now c.in_default.ensures) c.loop-after.invariant

@@ -1,6 +1,6 @@
-use Rattle.std.proofs.Common.{◌≡◌, ℕ, ◌<◌, length, List, [], ◌∷◌, ◌++◌, Ok, Err, Some, None, refl, sym, ap, ◌∙◌}
+use Rattle.std.proofs.Common.{Some, sym, ap, ◌∙◌}
 use Rattle.std.proofs.lemmas.Result.{err_from_is_err_and}
-use Rattle.slint_parser.specs.Reading.{Read, refusal, sign_at, prop_at, next_prop, props_at, list_at}
+use Rattle.slint_parser.specs.Reading.{Read, sign_at, prop_at, next_prop, props_at, list_at}
 use Rattle.slint_parser.proofs.Answers.{end_stays, refused_from_err, read_from_ok}
 use Rattle.slint_parser.proofs.Lists.{goes_on, is_done, is_refused, with_none}
 use Rattle.slint_parser.proofs.Heads.{next_again, next_none, Shrinks-next_prop}
@@ -15,8 +15,8 @@ returns-in_err-prop c =
     let p = err_from_is_err_and c.from_residual.result c.from_residual.ensures.1 in
     let open_ = refused_from_err c.past_sign.result (sign_at 125 c.loop-alloc.rest.now) (sym c.is_err.ensures.value ∙ c.loop-alloc-test.true) c.past_sign.ensures in
     rw (p.1, p.2) (end_stays c.in_err-prop.field-0.0 (prop_at c.loop-alloc.rest.now) (props_at c.args.tokens.now)
-      (λ e. is_refused next_prop c.loop-alloc.props c.loop-alloc.rest.now (props_at c.args.tokens.now) (next_again c.loop-alloc.rest.now open_ ∙ ap (λ (r : Read _). Some r) e) c.loop-alloc.invariant)
-      c.in_err-prop.ensures)
+    (λ e. is_refused next_prop c.loop-alloc.props c.loop-alloc.rest.now (props_at c.args.tokens.now) (next_again c.loop-alloc.rest.now open_ ∙ ap (λ (r : Read _). Some r) e) c.loop-alloc.invariant)
+    c.in_err-prop.ensures)
 
 pub loop-alloc-smaller : goal.loop-alloc-smaller
 loop-alloc-smaller c =
@@ -27,7 +27,7 @@ pub loop-alloc-preserved : goal.loop-alloc-preserved
 loop-alloc-preserved c =
     let open_ = refused_from_err c.past_sign.result (sign_at 125 c.loop-alloc.rest.now) (sym c.is_err.ensures.value ∙ c.loop-alloc-test.true) c.past_sign.ensures in
     rw c.in_ok-push.ensures.ok (goes_on next_prop c.loop-alloc.props c.loop-alloc.rest.now c.in_ok-prop.prop c.in_ok-prop.after.now (props_at c.args.tokens.now)
-      Shrinks-next_prop (next_again c.loop-alloc.rest.now open_ ∙ ap (λ (r : Read _). Some r) c.in_ok-prop.ensures) c.loop-alloc.invariant)
+    Shrinks-next_prop (next_again c.loop-alloc.rest.now open_ ∙ ap (λ (r : Read _). Some r) c.in_ok-prop.ensures) c.loop-alloc.invariant)
 
 pub returns : goal.returns
 returns c =
