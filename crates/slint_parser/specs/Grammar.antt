@@ -94,3 +94,7 @@ pub record DerivesFile (tokens : List Token) (file : FirstFile) : Type 0 where
   pub takes_open : Takes kinds.OpenBrace brace body
   pub props : DerivesProps body file.props close
   pub takes_close : Takes kinds.CloseBrace close []
+
+-- no tree has these tokens
+abbrev pub NoTree : List Token → Type 0
+NoTree tokens = (file : FirstFile) → DerivesFile tokens file → ⊥

@@ -1,6 +1,15 @@
 //! From the tokens of a source to its tree.
 #![tactic(auto)]
 
+mod expressions;
+mod files;
+mod properties;
+mod refusal;
+mod steps;
 mod trees;
 
+pub use files::{one_tree, parse_first};
 pub use trees::{Factor, FirstFile, FirstProp, FirstProps, Terms};
+
+#[cfg(test)]
+mod tests;
