@@ -30,6 +30,7 @@ fn unbuilt(file: u32) -> Fault
 pub fn lex(alloc: Global, file: u32, bytes: &[u8]) -> Result<Vec<Token>, End<Fault>>
     requires { length bytes.now < 2 ^ 32 }
     ensures tokens { IfOk result (λ ts. Lexes file 0 bytes.now ts.items) }
+    ensures only { IfOk result (λ ts. (others : List Lexed) → Lexes file 0 bytes.now others → others ≡ ts.items) }
     ensures fault { IfErr result (EndsLexing file bytes.now) }
 {
     let mut tokens = Vec::new(alloc);

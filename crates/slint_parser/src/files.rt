@@ -61,6 +61,8 @@ fn file_of(alloc: Global, tokens: &[Token]) -> Result<FirstFile, End<Underivable
 pub fn parse_first(alloc: Global, tokens: &[Token]) -> Result<Option<FirstFile>, Memory>
     // A tree that is given has these tokens.
     ensures tree { IfOk result (λ found. IfSome found (DerivesFile tokens.now)) }
+    // And no other tree has.
+    ensures only { IfOk result (λ found. IfSome found (λ file. (other : FirstFile) → DerivesFile tokens.now other → other ≡ file)) }
     // Where none is given, no tree has these tokens.
     ensures none { IfOk result (λ found. IfNone found (NoTree tokens.now)) }
 {

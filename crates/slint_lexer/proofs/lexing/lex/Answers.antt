@@ -1,3 +1,4 @@
+use Rattle.slint_lexer.proofs.Lexings.{same_tokens}
 use Rattle.slint_lexer.proofs.Progress.{led_init, led_push, led_end, led_fault}
 use Rattle.slint_lexer.proofs.lexing.lex.Goals as goal
 
@@ -12,3 +13,6 @@ returns-then-at-bytes-clause-fault c = (c.unbuilt.ensures, led_fault c.args.file
 
 pub returns-clause-tokens : goal.returns-clause-tokens
 returns-clause-tokens c = led_end c.args.file c.args.bytes.now _ _ c.loop-tokens.invariant c.if-at-bytes.false
+
+pub returns-clause-only : goal.returns-clause-only
+returns-clause-only c = λ others read. same_tokens c.args.file 0 c.args.bytes.now others c.loop-tokens.tokens.items read (led_end c.args.file c.args.bytes.now _ _ c.loop-tokens.invariant c.if-at-bytes.false)
