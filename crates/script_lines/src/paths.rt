@@ -1,4 +1,4 @@
-ghost use Rattle.std.specs.Prelude.{◌≡◌, ◌++◌, ◌==◌, ◌∷◌, [], IfOk};
+ghost use Rattle.std.specs.Prelude.{◌≡◌, ◌++◌, ◌==◌, ◌∷◌, [], ℕ, List, Option, IfOk};
 ghost use Rattle.std.specs.List.{slice_split};
 ghost use Rattle.std.specs.Option.{option_map};
 ghost use Rattle.slint_meaning.specs.Paths.{is_path_name, before_bracket, from_bracket, before_close, bracketed, row_number, row_of, step_of, steps_of, path_from, path_of};
@@ -67,7 +67,7 @@ fn read_step(alloc: Global, text: &str) -> Result<Option<PathStep>, Memory>
 
 /// What stands before a text's first `[`, and the row number that it begins. `None` where it begins none.
 fn split_row(text: &str) -> Option<(&str, Option<u32>)>
-    ensures { option_map (λ parts. (parts.0.now, parts.1)) result ≡ option_map (λ row. (before_bracket text.now, row)) (row_of (from_bracket text.now)) }
+    ensures { option_map {U = List ℕ × Option ℕ} (λ parts. (parts.0.now, parts.1)) result ≡ option_map {U = List ℕ × Option ℕ} (λ row. (before_bracket text.now, row)) (row_of (from_bracket text.now)) }
 {
     match text.split_once('[') {
         Some((name, behind)) => Some((name, Some(read_row(behind)?))),
