@@ -60,9 +60,10 @@ minus {E} bs (Err e) h first =
 -- a text that begins with no plus
 pub int_reading-parse : {E : Type 0} (bs : List ℕ) (r : Result ℤ E) → ParsesSigned w32 10 bs r → eqb (slice_index bs 0) 43 ≡ false → result_ok r ≡ int_reading bs
 int_reading-parse bs r h plus =
-    elim (eqb (slice_index bs 0) 45) as (λ v. eqb (slice_index bs 0) 45 ≡ v → result_ok r ≡ cond v (digits_reading 2147483648 (λ n. neg_ℤ (pos n)) (drop 1 bs)) (digits_reading 2147483647 pos bs))
-      [ true ↦ λ e. minus bs r h (eqb-true _ _ e)
-      | false ↦ λ e. plain bs r h (eqb-false _ _ plus) (eqb-false _ _ e) ] refl
+    elim (eqb (slice_index bs 0) 45) as (λ v. eqb (slice_index bs 0) 45 ≡ v → result_ok r ≡ cond v (digits_reading 2147483648 (λ n. neg_ℤ (pos n)) (drop 1 bs)) (digits_reading 2147483647 pos bs)) [
+      | true ↦ λ e. minus bs r h (eqb-true _ _ e)
+      | false ↦ λ e. plain bs r h (eqb-false _ _ plus) (eqb-false _ _ e)
+    ] refl
 
 -- a text that begins with a plus spells no int
 pub int_reading-plus : (bs : List ℕ) → eqb (slice_index bs 0) 43 ≡ true → None ≡ int_reading bs

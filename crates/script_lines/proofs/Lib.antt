@@ -2,3 +2,4 @@ pub mod Trims
 pub mod Cuts
 pub mod Ints
 pub mod Rows
+pub mod Naming

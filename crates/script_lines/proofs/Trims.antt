@@ -51,9 +51,10 @@ after_blanks-cuts R sees s r (n ∷ ns) (m, before, found, e) =
 -- nothing more to cut in front
 no_prefix : (b : ℕ) (bs : List ℕ) (o : Option ℕ) → FindsPrefixBy is_blank (b ∷ bs) o → IfSome o (λ n. n ≡ 0) → after_blanks (b ∷ bs) ≡ b ∷ bs
 no_prefix b bs None found none =
-    elim (blank_or b)
-      [ inl e ↦ absurd (false≢true (sym (found b bs (low_scalar b (omega (arith, blank_small b e))) (ap (λ c. c ++ bs) (sym (encode_ascii b (blank_small b e))))) ∙ e))
-      | inr e ↦ after_blanks-stop b bs e ]
+    elim (blank_or b) [
+      | inl e ↦ absurd (false≢true (sym (found b bs (low_scalar b (omega (arith, blank_small b e))) (ap (λ c. c ++ bs) (sym (encode_ascii b (blank_small b e))))) ∙ e))
+      | inr e ↦ after_blanks-stop b bs e
+    ]
 no_prefix b bs (Some n) (c, t, at) none = absurd (omega (arith, len_utf8_bounds c, at.ends, none))
 
 after_blanks-trimmed : (R : List ℕ → Option ℕ → Type 0) → ((s : List ℕ) (o : Option ℕ) → R s o → FindsPrefixBy is_blank s o)
@@ -95,9 +96,10 @@ without_end_blanks-cuts R sees s r (n ∷ ns) (m, before, found, e) =
 -- nothing more to cut at the end
 no_suffix : (xs : List ℕ) (b : ℕ) (o : Option ℕ) → FindsSuffixBy is_blank (xs ++ b ∷ []) o → IfSome o (λ n. n ≡ 0) → without_end_blanks (xs ++ b ∷ []) ≡ xs ++ b ∷ []
 no_suffix xs b None found none =
-    elim (blank_or b)
-      [ inl e ↦ absurd (false≢true (sym (found b xs (low_scalar b (omega (arith, blank_small b e))) (ap (λ c. xs ++ c) (sym (encode_ascii b (blank_small b e))))) ∙ e))
-      | inr e ↦ without_end_blanks-stop xs b e ]
+    elim (blank_or b) [
+      | inl e ↦ absurd (false≢true (sym (found b xs (low_scalar b (omega (arith, blank_small b e))) (ap (λ c. xs ++ c) (sym (encode_ascii b (blank_small b e))))) ∙ e))
+      | inr e ↦ without_end_blanks-stop xs b e
+    ]
 no_suffix xs b (Some n) (c, t, at) none = absurd (omega (arith, len_utf8_bounds c, at.ends, none))
 
 without_end_blanks-trimmed : (R : List ℕ → Option ℕ → Type 0) → ((s : List ℕ) (o : Option ℕ) → R s o → FindsSuffixBy is_blank s o)

@@ -99,7 +99,8 @@ fn is_path_name(text: &str) -> bool
     let mut chars = text.chars();
     match chars.next() {
         Some(first) => {
-            (is_xid_start(first) || first == '_') && chars.all(|ch| is_xid_continue(ch) || ch == '-')
+            (is_xid_start(first) || first == '_')
+                && chars.all(|ch| is_xid_continue(ch) || ch == '-')
         }
         None => false,
     }

@@ -96,7 +96,12 @@ fn bytes_that_are_no_text_are_read_only_as_a_comment(rt: HostRuntime) -> Result<
 
 #[test]
 fn a_line_has_4096_bytes_at_most(rt: HostRuntime) -> Result<(), Fail> {
-    for (blanks, end, want) in [(4096, "", "-"), (4096, "\r", "-"), (4097, "", "long"), (4097, "\r", "long")] {
+    for (blanks, end, want) in [
+        (4096, "", "-"),
+        (4096, "\r", "-"),
+        (4097, "", "long"),
+        (4097, "\r", "long"),
+    ] {
         let mut line = vec![in rt.alloc(); b' '; blanks]?;
         line.extend_from_slice(end.as_bytes())?;
         let read = shown_line(rt.alloc(), line.as_slice())?;
@@ -116,7 +121,10 @@ fn an_int_is_read_within_its_ends(rt: HostRuntime) {
         ("2147483648", None),
         ("-2147483648", Some(-2147483648)),
         ("-2147483649", None),
-        ("0000000000000000000000000000000000000000000000000000000000005", Some(5)),
+        (
+            "0000000000000000000000000000000000000000000000000000000000005",
+            Some(5),
+        ),
         ("99999999999999999999999999", None),
         ("", None),
         ("-", None),
