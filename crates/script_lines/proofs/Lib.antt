@@ -3,3 +3,4 @@ pub mod Cuts
 pub mod Ints
 pub mod Rows
 pub mod Naming
+pub mod Following
