@@ -1,8 +1,10 @@
 -- The steps of a path, one behind the other.
-use Rattle.std.proofs.Common.{◌≡◌, ◌==◌, ℕ, ◌+◌, ◌<◌, zero, suc, Bool, true, false, List, [], ◌∷◌, ◌++◌, length, get_or, map, Option, Some, None, refl, sym, ap, ◌∙◌, subst, arith, append_assoc, cond}
+use Rattle.std.proofs.Common.{◌≡◌, ◌≢◌, ◌==◌, ℕ, ◌+◌, ◌<◌, zero, suc, Bool, true, false, List, [], ◌∷◌, ◌++◌, length, get_or, map, Option, Some, None, refl, sym, ap, ◌∙◌, subst, arith, append_assoc, cond}
 use Rattle.std.specs.List.{slice_split, position_or_len, before_first, after_first}
 use Rattle.std.specs.Option.{option_map}
-use Rattle.std.proofs.lemmas.List.Splits.{slice_split_first, slice_split_none}
+use Rattle.std.proofs.lemmas.Bool.{ne_eqb}
+use Rattle.std.proofs.lemmas.List.Splits.{slice_split_first}
+use Rattle.slint_base.specs.Names.{normal_name}
 use Rattle.slint_meaning.specs.declared.commands.PathStep.{PathStep}
 use Rattle.slint_meaning.specs.Paths.{step_of, steps_of, onto_all, is_path_name, path_from, path_of}
 
@@ -52,3 +54,39 @@ steps_of-none (first ∷ texts) (suc k) text on is none = ap (onto_all (step_of 
 
 pub longer-none : (path : List PathStep) (texts : List (List ℕ)) (k : ℕ) (text : List ℕ) → k < length texts → text ≡ get_or texts k text → step_of text ≡ None → longer path texts ≡ None
 longer-none path texts k text on is none = ap (option_map (λ s. path ++ s)) (steps_of-none texts k text on is none)
+
+-- a path's first name, with or without steps behind it
+abbrev first_of : Bool → List ℕ → List (List ℕ) → Option (List PathStep)
+first_of named first others = cond named (option_map (λ steps. record { name = normal_name first; row = None } ∷ steps) (steps_of others)) None
+
+first_of-more : (named : Bool) (first : List ℕ) (others : List (List ℕ)) (path : List PathStep) → first_of named first [] ≡ Some path → first_of named first others ≡ longer path others
+first_of-more true first others path h =
+    let e : record { name = normal_name first; row = None } ∷ [] ≡ path = cc in
+    ap (λ p. longer p others) e
+first_of-more false first others path h = cc
+
+first_of-none : (named : Bool) (first : List ℕ) (others : List (List ℕ)) → first_of named first [] ≡ None → first_of named first others ≡ None
+first_of-none true first others h = cc
+first_of-none false first others h = refl
+
+abbrev points : List ℕ → List (List ℕ)
+points text = slice_split (λ b. b == 46) text
+
+pub path_of-more : (text first others : List ℕ) (path : List PathStep) → (position_or_len (λ b. b == 46) text < length text) × (first ≡ before_first (λ b. b == 46) text) × (others ≡ after_first (λ b. b == 46) text)
+    → path_from (first ∷ []) ≡ Some path → longer path (points others) ≡ path_of text
+path_of-more text first others path (on, front, behind) h =
+    let cut : points text ≡ first ∷ points others = slice_split_first (λ b. b == 46) text 0 on ∙ (ap (λ v. v ∷ points (after_first (λ b. b == 46) text)) (sym front) ∙ ap (λ v. first ∷ points v) (sym behind)) in
+    sym (ap path_from cut ∙ first_of-more (is_path_name first) first (points others) path h)
+
+pub path_of-none : (text first others : List ℕ) → (position_or_len (λ b. b == 46) text < length text) × (first ≡ before_first (λ b. b == 46) text) × (others ≡ after_first (λ b. b == 46) text)
+    → path_from (first ∷ []) ≡ None → None ≡ path_of text
+path_of-none text first others (on, front, behind) h =
+    let cut : points text ≡ first ∷ points others = slice_split_first (λ b. b == 46) text 0 on ∙ (ap (λ v. v ∷ points (after_first (λ b. b == 46) text)) (sym front) ∙ ap (λ v. first ∷ points v) (sym behind)) in
+    sym (ap path_from cut ∙ first_of-none (is_path_name first) first (points others) h)
+
+-- a text without a point is one part
+pub points-none : (text : List ℕ) → ((i : ℕ) → i < length text → get_or text i 0 ≢ 46) → points text ≡ text ∷ []
+points-none [] h = refl
+points-none (b ∷ bs) h =
+    let more : points bs ≡ bs ∷ [] = points-none bs (λ i l. h (suc i) (omega arith)) in
+    rw (ne_eqb b 46 (h 0 (omega arith)), more) refl
