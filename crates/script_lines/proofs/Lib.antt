@@ -4,3 +4,4 @@ pub mod Ints
 pub mod Rows
 pub mod Naming
 pub mod Following
+pub mod Texts
