@@ -5,3 +5,4 @@ pub mod Rows
 pub mod Naming
 pub mod Following
 pub mod Texts
+pub mod Returns

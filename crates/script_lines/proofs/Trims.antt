@@ -77,7 +77,7 @@ without_end_blanks-stop (x ∷ xs) b e =
     rw (all, without_end_blanks-stop xs b e) refl
 
 -- the last byte of a list
-snoc : (x : ℕ) (xs : List ℕ) → (front : List ℕ) × (b : ℕ) × (x ∷ xs ≡ front ++ b ∷ [])
+pub snoc : (x : ℕ) (xs : List ℕ) → (front : List ℕ) × (b : ℕ) × (x ∷ xs ≡ front ++ b ∷ [])
 snoc x [] = ([], x, refl)
 snoc x (y ∷ ys) = let s = snoc y ys in (x ∷ s.0, s.1, ap (λ bs. x ∷ bs) s.2)
 
