@@ -1,5 +1,5 @@
 -- Where `split_once` cuts a text at its first blank.
-use Rattle.std.proofs.Common.{◌≡◌, ℕ, ◌+◌, ◌-◌, ◌<◌, ◌≤◌, Bool, true, false, List, [], ◌∷◌, ◌++◌, length, suc, get_or, take, drop, Option, Some, None, refl, sym, ap, ◌∙◌, subst, arith, ◌⊎◌, inl, inr}
+use Rattle.std.proofs.Common.{◌≡◌, ℕ, ◌<◌, ◌≤◌, Bool, true, false, List, [], ◌∷◌, ◌++◌, length, suc, get_or, take, drop, Option, Some, None, refl, sym, ap, ◌∙◌, subst, arith, inl, inr}
 use Rattle.std.specs.Str.{NoCharPasses}
 use Rattle.std.specs.Str.Pattern.{HasCharAt, FindsBy}
 use Rattle.std.specs.Char.{char_set_contains}
@@ -8,7 +8,7 @@ use Rattle.std.proofs.lemmas.Bool.{cases_lt}
 use Rattle.std.proofs.lemmas.Bool.Decides.{nat_tests}
 use Rattle.std.proofs.lemmas.List.{take-append-drop}
 use Rattle.slint_meaning.specs.Lines.{is_blank, after_blanks, word_of, after_word}
-use Rattle.script_lines.proofs.Trims.{blank_set, blank_small, blank_or}
+use Rattle.script_lines.proofs.Trims.{blank_set, blank_small}
 
 -- no byte is a blank
 abbrev NoBlank : List ℕ → Type 0

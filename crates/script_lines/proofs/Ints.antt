@@ -1,15 +1,13 @@
 -- What `parse` gives at an `i32`, in the words of the language's `int`.
-use Rattle.std.proofs.Common.{◌≡◌, ◌≢◌, ℕ, ℤ, pos, neg_ℤ, ◌+◌, ◌<◌, ◌≤◌, Bool, true, false, ◌&&◌, cond, List, [], ◌∷◌, length, get_or, drop, Option, Some, None, Result, Ok, Err, refl, sym, ap, ◌∙◌, subst, arith, rules, tests, ◌⊎◌, inl, inr, slice_index, nat_le, leb, eqb}
+use Rattle.std.proofs.Common.{◌≡◌, ◌≢◌, ℕ, ℤ, pos, neg_ℤ, ◌<◌, ◌≤◌, Bool, true, false, cond, List, [], ◌∷◌, length, get_or, drop, Some, None, Result, Ok, Err, refl, arith, rules, tests, slice_index, nat_le, eqb}
 use Rattle.std.specs.List.{list_all}
 use Rattle.std.specs.Char.{is_ascii_digit}
-use Rattle.std.specs.Result.{OkIff, result_ok}
+use Rattle.std.specs.Result.{result_ok}
 use Rattle.std.specs.Str.Parse.{ParsesSigned, digits_value}
 use Rattle.std.proofs.lemmas.Str.Parse.{IsNumeralModel, IsDigitsTest, numerals_by_value, parse_signed_plain, parse_signed_minus}
 use Rattle.std.proofs.lemmas.Bool.{eqb-true, eqb-false}
 use Rattle.std.proofs.lemmas.Bool.Decides.{nat_tests}
-use Rattle.std.proofs.lemmas.Grind.{common_steps}
-use Rattle.slint_lexer.specs.Bytes.{is_number}
-use Rattle.slint_meaning.specs.Commands.{int_reading, digits_reading, up_to}
+use Rattle.slint_meaning.specs.Commands.{int_reading, digits_reading}
 use mir.Syntax.{w32}
 
 -- digits, tested one by one

@@ -1,5 +1,5 @@
 -- A line that is neither too long nor passed over.
-use Rattle.std.proofs.Common.{◌≡◌, ℕ, ◌<◌, ◌≤◌, Bool, true, false, List, length, Option, Result, Err, refl, sym, ap, ◌∙◌, rules, tests, nat_lt, cond}
+use Rattle.std.proofs.Common.{◌≡◌, ℕ, ◌≤◌, Bool, true, false, List, length, Option, Result, Err, refl, ap, ◌∙◌, rules, tests, nat_lt, cond}
 use Rattle.std.specs.Str.{IsUtf8, is_utf8}
 use Rattle.std.proofs.lemmas.Str.{IsUtf8-from_is_utf8, is_utf8-from_IsUtf8}
 use Rattle.slint_meaning.specs.declared.commands.Command.{Command}

@@ -1,4 +1,4 @@
-use Rattle.std.proofs.Common.{◌≡◌, ◌∙◌, sym, ap, subst, Option, Result}
+use Rattle.std.proofs.Common.{◌∙◌, ap, subst, Option, Result}
 use Rattle.slint_base.specs.Answers.{Gives}
 use Rattle.slint_meaning.specs.declared.commands.Command.{Command}
 use Rattle.slint_meaning.specs.declared.commands.BadLine.{BadLine}

@@ -1,5 +1,5 @@
 use Rattle.std.proofs.Common.{◌∙◌, sym, lit<}
-use Rattle.script_lines.proofs.Ints.{int_reading-parse, int_reading-plus}
+use Rattle.script_lines.proofs.Ints.{int_reading-parse}
 use Rattle.script_lines.proofs.numbers.read_int.Goals as goal
 
 pub returns : goal.returns

@@ -1,4 +1,4 @@
-use Rattle.std.proofs.Common.{◌≡◌, Bool, true, ◌∙◌, sym, ap, rules, tests}
+use Rattle.std.proofs.Common.{◌≡◌, true, ◌∙◌, sym, rules, tests}
 use Rattle.std.specs.List.{list_all}
 use Rattle.std.specs.Char.{is_ascii_digit}
 use Rattle.std.proofs.lemmas.Iterator.Adapters.{YieldsList-from_bytes}

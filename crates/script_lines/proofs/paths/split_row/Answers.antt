@@ -1,4 +1,4 @@
-use Rattle.std.proofs.Common.{◌∙◌, sym, ap, ℕ, List, Option, Some, None, lit<}
+use Rattle.std.proofs.Common.{◌∙◌, sym, ap, Some, None, lit<}
 use Rattle.std.specs.Option.{option_map}
 use Rattle.std.proofs.lemmas.Str.Pattern.{split_parts}
 use Rattle.script_lines.proofs.Rows.{parts_of-bracket, parts_of-alone}
