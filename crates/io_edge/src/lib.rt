@@ -19,5 +19,5 @@ pub use memory_files::MemFiles;
 pub use memory_sink::MemSink;
 pub use memory_source::MemSource;
 pub use real_files::DiskFiles;
-pub use streams::{StreamSink, StreamSource, ToldReader, ToldWriter};
+pub use streams::{StreamSink, StreamSource};
 pub use whole::{SourceEnd, take_up_to, write_all};

@@ -1,36 +1,10 @@
-ghost use Rattle.std.specs.Prelude.{◌≡◌, ℕ, ◌≤◌, ◌<◌, IfOk, OnErr, None, refl, length, take};
+ghost use Rattle.std.specs.Prelude.{◌≡◌, ℕ, ◌≤◌, ◌<◌, IfOk, OnErr, length, take};
 ghost use Rattle.std.specs.Io.KnownBytes.{Appends, Consumes, IsAtEnd, Keeps};
 
 use crate::byte_sink::{Sink, SinkEnd};
 use crate::byte_source::{Failed, Source};
 use std::io;
-use std::io::{ErrorKind, Read, Stdin, Stdout, Write};
-
-/// A reader whose bytes are told at every value or at none, as its impl proves.
-pub trait ToldReader: Read {
-    ghost evenly: { (before after : Self) → Self.remaining before ≡ None → Self.remaining after ≡ None };
-}
-
-impl ToldReader for Stdin {
-    ghost evenly = { λ _ _ _. refl };
-}
-
-impl ToldReader for &[u8] {
-    ghost evenly = { λ _ _ told. Prim.cc };
-}
-
-/// A writer whose bytes are told at every value or at none, as its impl proves.
-pub trait ToldWriter: Write {
-    ghost evenly: { (before after : Self) → Self.contents before ≡ None → Self.contents after ≡ None };
-}
-
-impl ToldWriter for Stdout {
-    ghost evenly = { λ _ _ _. refl };
-}
-
-impl ToldWriter for Vec<u8> {
-    ghost evenly = { λ _ _ told. Prim.cc };
-}
+use std::io::{ErrorKind, Read, Write};
 
 /// A reader as a source. A read that a signal interrupts is tried again.
 #[derive(Debug, Drop)]
@@ -39,7 +13,7 @@ pub struct StreamSource<R> {
     faults: u64,
 }
 
-impl<R: ToldReader> StreamSource<R> {
+impl<R: Read> StreamSource<R> {
     pub fn new(inner: R) -> StreamSource<R>
         ensures left { ⟦<StreamSource<R> as Source>⟧.left result ≡ R.remaining inner }
         ensures faults { ⟦<StreamSource<R> as Source>⟧.faults result ≡ 0 }
@@ -55,7 +29,7 @@ impl<R: ToldReader> StreamSource<R> {
     }
 }
 
-impl<R: ToldReader> Source for StreamSource<R> {
+impl<R: Read> Source for StreamSource<R> {
     ghost left = { λ s. R.remaining s.inner };
 
     ghost faults = { λ s. s.faults };
@@ -82,7 +56,7 @@ pub struct StreamSink<W> {
     faults: u64,
 }
 
-impl<W: ToldWriter> StreamSink<W> {
+impl<W: Write> StreamSink<W> {
     pub fn new(inner: W) -> StreamSink<W>
         ensures taken { ⟦<StreamSink<W> as Sink>⟧.taken result ≡ W.contents inner }
         ensures faults { ⟦<StreamSink<W> as Sink>⟧.faults result ≡ 0 }
@@ -98,7 +72,7 @@ impl<W: ToldWriter> StreamSink<W> {
     }
 }
 
-impl<W: ToldWriter> Sink for StreamSink<W> {
+impl<W: Write> Sink for StreamSink<W> {
     ghost taken = { λ s. W.contents s.inner };
 
     ghost faults = { λ s. s.faults };
@@ -206,14 +180,6 @@ mod tests {
         fn flush(&mut self) -> io::Result<()> {
             Ok(())
         }
-    }
-
-    impl ToldReader for Broken {
-        ghost evenly = { λ _ _ _. refl };
-    }
-
-    impl ToldWriter for Broken {
-        ghost evenly = { λ _ _ _. refl };
     }
 
     #[test]
