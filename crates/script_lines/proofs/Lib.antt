@@ -1,8 +1,8 @@
-pub mod Trims
 pub mod Cuts
-pub mod Ints
-pub mod Rows
-pub mod Naming
 pub mod Following
-pub mod Texts
+pub mod Ints
+pub mod Naming
 pub mod Returns
+pub mod Rows
+pub mod Texts
+pub mod Trims
