@@ -1,0 +1,1 @@
+-- A run has one outcome.
