@@ -7,6 +7,9 @@ ghost use Rattle.slint_meaning.specs.Laws.{answer_of, world_after, answers, Sets
 ghost use Rattle.slint_meaning.specs.Runs.{Outcome, behind, run_lines, Runs};
 ghost use Rattle.slint_meaning.specs.Values.{World};
 
+use slint_lexer::one_reading;
+use slint_parser::one_tree;
+
 /// A law, which does nothing when it is called: a refused line leaves every other reply as it would be without that line.
 pub fn refused_lines_change_nothing()
     ensures { (file : FirstFile) (world : World) (before after : List (List ℕ)) (line : List ℕ) (why : Refusal) (end : Outcome) → answer_of file (world_after file world before) line ≡ refusal_reply why → (later : Outcome) × (run_lines file world (before ++ line ∷ after) end ≡ behind (answers file world before ++ refusal_reply why) later) × (run_lines file world (before ++ after) end ≡ behind (answers file world before) later) }
@@ -21,4 +24,7 @@ pub fn an_assignment_stays()
 /// A law, which does nothing when it is called: a run has at most one outcome.
 pub fn one_outcome()
     ensures { (ws : List (List ℕ)) (files : FileList) (script : List ℕ) (a b : Outcome) → Runs ws files script a → Runs ws files script b → a ≡ b }
-{}
+{
+    one_reading();
+    one_tree();
+}
