@@ -1,6 +1,6 @@
 -- Files: what is read is derived, and what is derived is read.
 use Rattle.std.proofs.Common.{◌≡◌, ℕ, List, [], ◌∷◌, Ok, Err, refl, sym, ap, subst, ◌∙◌, inl, inr}
-use Rattle.std.specs.Prelude.{codes}
+use Rattle.std.specs.Prelude.{codes, ◌⊎◌}
 use Rattle.slint_lexer.specs.declared.tokens.Token.{Token}
 use Rattle.slint_lexer.specs.declared.tokens.TokenKind.TheVariants as kinds
 use Rattle.slint_parser.specs.declared.trees.FirstProp.{FirstProp}
@@ -118,3 +118,12 @@ one_tree tokens a b d e = ok_is a b (sym (file_again tokens a d) ∙ file_again 
 -- where nothing is read no tree is derived
 pub no_tree : (tokens : List Token) → file_at tokens ≡ refusal → NoTree tokens
 no_tree tokens e file d = let again = file_again tokens file d in absurd cc
+
+-- by what is read
+some_tree : (tokens : List Token) (read : Read FirstFile) → file_at tokens ≡ read → ((file : FirstFile) × DerivesFile tokens file) ⊎ NoTree tokens
+some_tree tokens (Ok file) is = inl (file, file_sound tokens file is)
+some_tree tokens (Err d) is = inr (no_tree tokens is)
+
+-- tokens have a tree, or no tree has them
+pub tree_or_none : (tokens : List Token) → ((file : FirstFile) × DerivesFile tokens file) ⊎ NoTree tokens
+tree_or_none tokens = some_tree tokens (file_at tokens) refl

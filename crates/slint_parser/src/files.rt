@@ -1,4 +1,4 @@
-ghost use Rattle.std.specs.Prelude.{◌≡◌, List, IfOk, IfSome, IfNone};
+ghost use Rattle.std.specs.Prelude.{◌≡◌, ◌⊎◌, List, IfOk, IfSome, IfNone};
 ghost use Rattle.slint_base.specs.Answers.{Gives};
 ghost use Rattle.slint_lexer.specs.declared.tokens.Token.{Token};
 ghost use Rattle.slint_parser.specs.declared.trees.FirstFile.{FirstFile};
@@ -76,4 +76,9 @@ pub fn parse_first(alloc: Global, tokens: &[Token]) -> Result<Option<FirstFile>,
 /// A law, which does nothing when it is called: tokens have at most one tree.
 pub fn one_tree()
     ensures { (tokens : List Token) (a b : FirstFile) → DerivesFile tokens a → DerivesFile tokens b → a ≡ b }
+{}
+
+/// A law, which does nothing when it is called: tokens have a tree, or no tree has them.
+pub fn tree_or_none()
+    ensures { (tokens : List Token) → ((file : FirstFile) × DerivesFile tokens file) ⊎ NoTree tokens }
 {}

@@ -8,7 +8,7 @@ mod refusal;
 mod steps;
 mod trees;
 
-pub use files::{one_tree, parse_first};
+pub use files::{one_tree, parse_first, tree_or_none};
 pub use trees::{Factor, FirstFile, FirstProp, FirstProps, Terms};
 
 #[cfg(test)]
