@@ -1,3 +1,4 @@
+pub mod Either
 pub mod Front
 pub mod Lexings
 pub mod Numbers

@@ -33,7 +33,7 @@ led_start file bytes =
     }
 
 -- a lexing of bytes that begin with a token goes on behind it
-goes_on : (file at : ℕ) (bytes : List ℕ) (f : TokenKind × ℕ) (ts : List Token) → prefix_len is_separator bytes ≡ 0 → front_token bytes ≡ Some f → Lexes file at bytes ts
+pub goes_on : (file at : ℕ) (bytes : List ℕ) (f : TokenKind × ℕ) (ts : List Token) → prefix_len is_separator bytes ≡ 0 → front_token bytes ≡ Some f → Lexes file at bytes ts
     → (tail : List Token) × (ts ≡ token_at file at f ∷ tail) × Lexes file (at + f.1) (drop f.1 bytes) tail
 goes_on file at bytes f [] none is h =
     let left : drop (prefix_len is_separator bytes) bytes ≡ bytes = ap (λ m. drop m bytes) none in
@@ -80,7 +80,7 @@ led_end file bytes tokens at led over =
     subst (λ (us : List Token). Lexes file 0 bytes us) (append-nil tokens) (led.forward [] nothing)
 
 -- before the end, where no token begins, there are no tokens
-stuck : (file at : ℕ) (bytes : List ℕ) (ts : List Token) → prefix_len is_separator bytes ≡ 0 → front_token bytes ≡ None → 0 < length bytes → Lexes file at bytes ts → ⊥
+pub stuck : (file at : ℕ) (bytes : List ℕ) (ts : List Token) → prefix_len is_separator bytes ≡ 0 → front_token bytes ≡ None → 0 < length bytes → Lexes file at bytes ts → ⊥
 stuck file at bytes [] apart none some h =
     let left : drop (prefix_len is_separator bytes) bytes ≡ bytes = ap (λ m. drop m bytes) apart in
     let nil : bytes ≡ [] = sym left ∙ blank_front bytes h in

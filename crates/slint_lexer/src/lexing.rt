@@ -1,7 +1,7 @@
-ghost use Rattle.std.specs.Prelude.{◌≡◌, ℕ, ◌<◌, ◌^◌, List, length, IfOk, IfErr};
+ghost use Rattle.std.specs.Prelude.{◌≡◌, ℕ, ◌<◌, ◌^◌, ◌⊎◌, List, length, IfOk, IfErr};
 ghost use Rattle.slint_base.specs.declared.faults.Fault.{Fault as Faulted};
 ghost use Rattle.slint_lexer.specs.declared.tokens.Token.{Token as Lexed};
-ghost use Rattle.slint_lexer.specs.Tokens.{Lexes, EndsLexing, unbuilt};
+ghost use Rattle.slint_lexer.specs.Tokens.{Lexes, NoTokens, EndsLexing, unbuilt};
 
 use crate::spellings::{front_token, separators_length};
 use crate::{Token, TokenKind};
@@ -51,9 +51,14 @@ pub fn lex(alloc: Global, file: u32, bytes: &[u8]) -> Result<Vec<Token>, End<Fau
     Ok(tokens)
 }
 
-/// Bytes have at most one list of tokens.
+/// A law, which does nothing when it is called: bytes have at most one list of tokens.
 pub fn one_reading()
     ensures { (file at : ℕ) (bytes : List ℕ) (a b : List Lexed) → Lexes file at bytes a → Lexes file at bytes b → a ≡ b }
+{}
+
+/// A law, which does nothing when it is called: bytes are tokens, or no tokens are these bytes.
+pub fn tokens_or_none()
+    ensures { (file : ℕ) (bytes : List ℕ) → ((tokens : List Lexed) × Lexes file 0 bytes tokens) ⊎ NoTokens file bytes }
 {}
 
 #[cfg(test)]

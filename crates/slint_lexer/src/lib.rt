@@ -5,5 +5,5 @@ mod lexing;
 mod spellings;
 mod tokens;
 
-pub use lexing::{lex, one_reading};
+pub use lexing::{lex, one_reading, tokens_or_none};
 pub use tokens::{Token, TokenKind};
