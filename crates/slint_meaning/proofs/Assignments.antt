@@ -1,5 +1,5 @@
 -- An assignment of a property stays until the next one.
-use Rattle.std.proofs.Common.{◌≡◌, ℕ, ℤ, Bool, true, false, cond, ◌||◌, ◌&&◌, List, [], ◌∷◌, ◌++◌, map, reverse, Option, Some, None, Result, Ok, Err, refl, sym, ap, ◌∙◌, subst}
+use Rattle.std.proofs.Common.{◌≡◌, ℕ, ℤ, Bool, true, false, cond, ◌||◌, ◌&&◌, List, [], ◌∷◌, reverse, Option, Some, None, Result, Ok, Err, refl, sym, ap, ◌∙◌}
 use Rattle.std.specs.Prelude.{codes, is_none, All}
 use Rattle.std.specs.List.{list_any}
 use Rattle.std.specs.Str.{bytes_eq}
@@ -81,15 +81,15 @@ lines_keep : (file : FirstFile) (world : World) (name : List ℕ) (lines : List 
 lines_keep file world name [] none = refl
 lines_keep file world name (line ∷ lines) none =
     lines_keep file (turn_world world (does_line file world line)) name lines (All-tail (SetsNot file name) line lines none)
-        ∙ line_keeps file world name line (All-head (SetsNot file name) line lines none)
+    ∙ line_keeps file world name line (All-head (SetsNot file name) line lines none)
 
 -- a line that assigns a value
 sets_assigns : (file : FirstFile) (world : World) (line name : List ℕ) (value : ℤ) → Sets file line name value → assignment (turn_world world (does_line file world line)) name ≡ Some value
 sets_assigns file world line name value s =
     ap (λ reading. assignment (turn_world world (does_reading file world reading)) name) s.reads
-        ∙ ap (λ target. assignment (turn_world world (does_set world target s.text)) name) s.leads
-        ∙ ap (λ read. assignment (turn_world world (does_assign world name read)) name) s.means
-        ∙ ap (λ test. cond test (Some value) (latest world.assigned name)) (same_name name)
+    ∙ ap (λ target. assignment (turn_world world (does_set world target s.text)) name) s.leads
+    ∙ ap (λ read. assignment (turn_world world (does_assign world name read)) name) s.means
+    ∙ ap (λ test. cond test (Some value) (latest world.assigned name)) (same_name name)
 
 -- ---- the value of an assigned property
 
@@ -112,10 +112,10 @@ any_reverse : (p : FirstProp → Bool) (props : List FirstProp) → list_any p (
 any_reverse p [] = refl
 any_reverse p (prop ∷ props) =
     ap (λ ps. list_any p ps) (reverse-append (prop ∷ []) props)
-        ∙ list_any-append p (reverse props) (prop ∷ [])
-        ∙ ap (λ t. t || (p prop || false)) (any_reverse p props)
-        ∙ ap (λ t. list_any p props || t) (or_false (p prop))
-        ∙ or_comm (list_any p props) (p prop)
+    ∙ list_any-append p (reverse props) (prop ∷ [])
+    ∙ ap (λ t. t || (p prop || false)) (any_reverse p props)
+    ∙ ap (λ t. list_any p props || t) (or_false (p prop))
+    ∙ or_comm (list_any p props) (p prop)
 
 -- by whether the last property is the one
 value_by : (test : Bool) (given : Option ℤ) (bound earlier value : ℤ) (others : Bool) → (test || others) ≡ true → given ≡ Some value → (others ≡ true → earlier ≡ value) → cond test (assigned_or given bound) earlier ≡ value
@@ -126,7 +126,7 @@ value_assigned : (props : List FirstProp) (world : World) (name : List ℕ) (val
 value_assigned [] world name value some e = cc
 value_assigned (prop ∷ props) world name value some e =
     value_by (bytes_eq prop.name name) (assignment world name) (sum_value (λ earlier. value_among props world earlier) prop.terms) (value_among props world name) value (list_any (λ p. bytes_eq p.name name) props) some e
-        (λ others. value_assigned props world name value others e)
+    (λ others. value_assigned props world name value others e)
 
 -- ---- what a path leads to
 
@@ -159,8 +159,8 @@ gets_assigned file world line name value g e =
     let has = leads_to_property file g.path name g.leads in
     let some = any_reverse (λ prop. bytes_eq prop.name name) file.props ∙ sym (any_of_names name file.props) ∙ has in
     ap (λ reading. turn_answer (does_reading file world reading)) g.reads
-        ∙ ap (λ target. turn_answer (does_get file world target)) g.leads
-        ∙ ap value_reply (value_assigned (reverse file.props) world name value some e)
+    ∙ ap (λ target. turn_answer (does_get file world target)) g.leads
+    ∙ ap value_reply (value_assigned (reverse file.props) world name value some e)
 
 -- behind an assignment each question answers its value, until the next one
 pub assigned_stays : (file : FirstFile) (world : World) (set get : List ℕ) (between : List (List ℕ)) (name : List ℕ) (value : ℤ)
@@ -168,4 +168,4 @@ pub assigned_stays : (file : FirstFile) (world : World) (set get : List ℕ) (be
 assigned_stays file world set get between name value sets none gets =
     let first = turn_world world (does_line file world set) in
     gets_assigned file (world_after file first between) get name value gets
-        (lines_keep file first name between none ∙ sets_assigns file world set name value sets)
+    (lines_keep file first name between none ∙ sets_assigns file world set name value sets)

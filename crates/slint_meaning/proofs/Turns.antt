@@ -6,7 +6,7 @@ use Rattle.slint_meaning.specs.declared.commands.Command.TheVariants.{Get, Set}
 use Rattle.slint_meaning.specs.declared.commands.BadLine.{BadLine}
 use Rattle.slint_meaning.specs.declared.commands.BadLine.TheVariants as bad
 use Rattle.slint_meaning.specs.declared.commands.LineRefusal.{LineRefusal}
-use Rattle.slint_meaning.specs.Commands.{Turn, goes_on, halts, Target, nothing, root, property, target_of, int_reading, refusal_reply, does_get, does_assign, does_set, does_command, does_reading, does_line}
+use Rattle.slint_meaning.specs.Commands.{Turn, goes_on, Target, nothing, root, property, target_of, int_reading, refusal_reply, does_get, does_assign, does_set, does_command, does_reading, does_line}
 use Rattle.slint_meaning.specs.Laws.{turn_answer, turn_world, answer_of, world_after, answers}
 use Rattle.slint_meaning.specs.Lines.{line_reading}
 use Rattle.slint_meaning.specs.Runs.{Outcome, behind, after_turn, run_lines}
@@ -92,21 +92,21 @@ run_lines-append file world [] after end = refl
 run_lines-append file world (line ∷ lines) after end =
     let next = turn_world world (does_line file world line) in
     run_lines-cons file world line (lines ++ after) end
-        ∙ ap (λ outcome. behind (answer_of file world line) outcome) (run_lines-append file next lines after end)
-        ∙ sym (behind-append (answer_of file world line) (answers file next lines) (run_lines file (world_after file next lines) after end))
+    ∙ ap (λ outcome. behind (answer_of file world line) outcome) (run_lines-append file next lines after end)
+    ∙ sym (behind-append (answer_of file world line) (answers file next lines) (run_lines file (world_after file next lines) after end))
 
 -- a refused line leaves every other reply as it would be without that line
 pub without_refused : (file : FirstFile) (world : World) (before after : List (List ℕ)) (line : List ℕ) (why : LineRefusal) (end : Outcome) → answer_of file (world_after file world before) line ≡ refusal_reply why
     → (later : Outcome) × (run_lines file world (before ++ line ∷ after) end ≡ behind (answers file world before ++ refusal_reply why) later)
-        × (run_lines file world (before ++ after) end ≡ behind (answers file world before) later)
+    × (run_lines file world (before ++ after) end ≡ behind (answers file world before) later)
 without_refused file world before after line why end refused =
     let here = world_after file world before in
     let later = run_lines file here after end in
     let same = line_leaves file here line why refused in
     let refusal : run_lines file here (line ∷ after) end ≡ behind (refusal_reply why) later =
-        run_lines-cons file here line after end
-            ∙ ap (λ next. behind (answer_of file here line) (run_lines file next after end)) same
-            ∙ ap (λ answer. behind answer later) refused in (
+    run_lines-cons file here line after end
+    ∙ ap (λ next. behind (answer_of file here line) (run_lines file next after end)) same
+    ∙ ap (λ answer. behind answer later) refused in (
       later,
       run_lines-append file world before (line ∷ after) end
           ∙ ap (λ outcome. behind (answers file world before) outcome) refusal

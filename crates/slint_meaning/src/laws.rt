@@ -7,18 +7,26 @@ ghost use Rattle.slint_meaning.specs.Laws.{answer_of, world_after, answers, Sets
 ghost use Rattle.slint_meaning.specs.Runs.{Outcome, behind, run_lines, Runs};
 ghost use Rattle.slint_meaning.specs.Values.{World};
 
-use slint_lexer::one_reading;
-use slint_parser::one_tree;
+use slint_lexer::{one_reading, tokens_or_none};
+use slint_parser::{one_tree, tree_or_none};
 
 /// A law, which does nothing when it is called: a refused line leaves every other reply as it would be without that line.
 pub fn refused_lines_change_nothing()
-    ensures { (file : FirstFile) (world : World) (before after : List (List ℕ)) (line : List ℕ) (why : Refusal) (end : Outcome) → answer_of file (world_after file world before) line ≡ refusal_reply why → (later : Outcome) × (run_lines file world (before ++ line ∷ after) end ≡ behind (answers file world before ++ refusal_reply why) later) × (run_lines file world (before ++ after) end ≡ behind (answers file world before) later) }
+    ensures { (file : FirstFile) (world : World) (before after : List (List ℕ)) (line : List ℕ) (why : Refusal) (end : Outcome)
+        → answer_of file (world_after file world before) line ≡ refusal_reply why
+        → (later : Outcome)
+        × (run_lines file world (before ++ line ∷ after) end ≡ behind (answers file world before ++ refusal_reply why) later)
+        × (run_lines file world (before ++ after) end ≡ behind (answers file world before) later) }
 {}
 
 /// A law, which does nothing when it is called: behind a line that assigns a value to a property, each line that asks for the
 /// property answers that value, until another line assigns one to it, whatever stands between.
 pub fn an_assignment_stays()
-    ensures { (file : FirstFile) (world : World) (set get : List ℕ) (between : List (List ℕ)) (name : List ℕ) (value : ℤ) → Sets file set name value → All (SetsNot file name) between → Gets file get name → answer_of file (world_after file world (set ∷ between)) get ≡ value_reply value }
+    ensures { (file : FirstFile) (world : World) (set get : List ℕ) (between : List (List ℕ)) (name : List ℕ) (value : ℤ)
+        → Sets file set name value
+        → All (SetsNot file name) between
+        → Gets file get name
+        → answer_of file (world_after file world (set ∷ between)) get ≡ value_reply value }
 {}
 
 /// A law, which does nothing when it is called: a run has at most one outcome.
@@ -27,4 +35,14 @@ pub fn one_outcome()
 {
     one_reading();
     one_tree();
+}
+
+/// A law, which does nothing when it is called: each run has an outcome.
+pub fn some_outcome()
+    ensures { (ws : List (List ℕ)) (files : FileList) (script : List ℕ) → (outcome : Outcome) × Runs ws files script outcome }
+{
+    one_reading();
+    one_tree();
+    tokens_or_none();
+    tree_or_none();
 }

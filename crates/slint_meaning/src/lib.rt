@@ -5,4 +5,4 @@ mod commands;
 mod laws;
 
 pub use commands::{BadLine, Command, Ending, LineRefusal, Path, PathStep};
-pub use laws::{an_assignment_stays, one_outcome, refused_lines_change_nothing};
+pub use laws::{an_assignment_stays, one_outcome, refused_lines_change_nothing, some_outcome};
