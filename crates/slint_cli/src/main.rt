@@ -9,6 +9,8 @@ mod resolving;
 mod running;
 mod script;
 mod status;
+#[cfg(test)]
+mod tests;
 mod top;
 
 use io_edge::{DiskFiles, StreamSink, StreamSource};

@@ -1,0 +1,336 @@
+use crate::{Status, slint_run};
+use io_edge::{MemFiles, MemSink, MemSource};
+use std::alloc::{AllocError, Global};
+use std::test::Fail;
+
+/// What a run is given: the words behind the program's name, the main file's text, the script, the most bytes that a call
+/// moves, and the numbers of the calls that fail.
+#[derive(Drop)]
+struct Given<'a> {
+    words: &'a [&'a str],
+    source: Option<&'a str>,
+    script: &'a [u8],
+    piece: usize,
+    files_fail: Vec<u64>,
+    script_fail: Vec<u64>,
+    out_fail: Vec<u64>,
+}
+
+/// What a run came to: its status, the bytes that were taken, and the bytes of the script that are left.
+#[derive(Debug, Drop)]
+struct Came {
+    status: Status,
+    bytes: Vec<u8>,
+    left: usize,
+}
+
+impl Given<'_> {
+    /// A run of `main.slint` in which no call fails.
+    fn quiet<'a>(alloc: Global, source: Option<&'a str>, script: &'a [u8]) -> Given<'a> {
+        Given {
+            words: &["main.slint"],
+            source,
+            script,
+            piece: 4096,
+            files_fail: Vec::new(alloc),
+            script_fail: Vec::new(alloc),
+            out_fail: Vec::new(alloc),
+        }
+    }
+
+    fn run(self, alloc: Global) -> Result<Came, AllocError> {
+        let mut words = vec![in alloc; String::from_str(alloc, "slintrun")?]?;
+        for word in self.words {
+            words.push(String::from_str(alloc, word)?)?;
+        }
+        let mut held = Vec::new(alloc);
+        if let Some(source) = self.source {
+            let bytes = Vec::from_slice(alloc, source.as_bytes())?;
+            held.push((String::from_str(alloc, "main.slint")?, bytes))?;
+        }
+        let piece = self.piece.max(1);
+        let script = Vec::from_slice(alloc, self.script)?;
+        let mut files = MemFiles::new(alloc, held, self.files_fail);
+        let mut script = MemSource::new(alloc, script, piece, self.script_fail);
+        let mut out = MemSink::new(alloc, piece, self.out_fail);
+        let status = slint_run(alloc, words, &mut files, &mut script, &mut out);
+        let bytes = Vec::from_slice(alloc, out.bytes())?;
+        let left = script.left().len();
+        Ok(Came {
+            status,
+            bytes,
+            left,
+        })
+    }
+}
+
+/// The usual component with this body.
+fn component(alloc: Global, body: &str) -> Result<String, AllocError> {
+    format!(in alloc; "export component Main inherits Window {{\n{body}\n}}\n")
+}
+
+const FIRST: &str = "    in-out property <int> a: 2;\n    in-out property <int> b: a * 3;";
+
+#[test]
+fn answers_scripts(rt: HostRuntime) -> Result<(), Fail> {
+    let mixed =
+        "in_out property<int>foo_bar:2+3*4;\r\n property < int > x-y : foo-bar*foo_bar ; property<int>z:x_y*100000000;";
+    for (body, script, want) in [
+        (
+            FIRST,
+            "get root.b\nset root.a 5\nget root.b\n",
+            "6\nok\n15\n",
+        ),
+        (
+            FIRST,
+            "set root.b 100\nset root.a 7\nget root.b",
+            "ok\nok\n100\n",
+        ),
+        (
+            mixed,
+            "get root.foo-bar\n  get\troot.x_y\t\nget root.z\r\n",
+            "14\n196\n2147483647\n",
+        ),
+        (
+            mixed,
+            "set root.foo_bar -3\nget root.x-y\nget root.z",
+            "ok\n9\n900000000\n",
+        ),
+        ("", "\n\t \n// get root.a\n", ""),
+        (
+            FIRST,
+            "get\nget root\nget root.a x\nset root.a\nset root.a -\n",
+            "refused 1\nrefused 3\nrefused 1\nrefused 1\nrefused 4\n",
+        ),
+        (
+            FIRST,
+            "set root.a 2147483648\nset root.a -2147483648\nget root.b\n",
+            "refused 4\nok\n-2147483648\n",
+        ),
+        (
+            FIRST,
+            "get root.a.b\nget other.a\nget root.zz\nset root x\nset zz x\n",
+            "refused 2\nrefused 2\nrefused 2\nrefused 3\nrefused 2\n",
+        ),
+        (
+            FIRST,
+            "get root.é\n // x\nrows root.a\nGET root.a\nget root.a\r\r\n",
+            "refused 2\nrefused 1\nrefused 1\nrefused 1\nrefused 1\n",
+        ),
+        (
+            FIRST,
+            "set root.a 007\nget root.a\nset root.a +5\nset root.a - 5\nget root.b\n",
+            "ok\n7\nrefused 4\nrefused 4\n21\n",
+        ),
+    ] {
+        let source = component(rt.alloc(), body)?;
+        let came = Given::quiet(rt.alloc(), Some(source.as_str()), script.as_bytes()).run(
+            rt.alloc(),
+        )?;
+        assert_eq!(rt; came.bytes.as_slice(), want.as_bytes(), "{script}");
+        assert!(rt; came.status == Status::Done, "{script}");
+    }
+    Ok(())
+}
+
+#[test]
+fn judges_sources(rt: HostRuntime) -> Result<(), Fail> {
+    for (words, source, status, want) in [
+        (
+            ["main.slint"].as_slice(),
+            Some("component A { }"),
+            Status::Done,
+            "refused 3\n",
+        ),
+        (
+            &["main.slint"],
+            Some("component A {\r\n property<int>true:1; } "),
+            Status::Done,
+            "refused 3\n",
+        ),
+        (
+            &["main.slint"],
+            Some(""),
+            Status::Refused,
+            "refused 90 main.slint 1:1-1:1\n",
+        ),
+        (
+            &["main.slint"],
+            None,
+            Status::Refused,
+            "refused 20 main.slint 1:1-1:1\n",
+        ),
+        (
+            &["other.slint"],
+            Some("component A { }"),
+            Status::Refused,
+            "refused 20 other.slint 1:1-1:1\n",
+        ),
+        (
+            &["main.slint"],
+            Some("component A { property <int> a: zz; }"),
+            Status::Refused,
+            "refused 90 main.slint 1:1-1:1\n",
+        ),
+        (
+            &["main.slint"],
+            Some("component A { property <int> a: a; }"),
+            Status::Refused,
+            "refused 90 main.slint 1:1-1:1\n",
+        ),
+        (
+            &["main.slint"],
+            Some("component A { property <int> a: 1; property <int> a: 1; }"),
+            Status::Refused,
+            "refused 90 main.slint 1:1-1:1\n",
+        ),
+        (
+            &["main.slint"],
+            Some("component A { property <int> self: 1; property <int> a: self; }"),
+            Status::Refused,
+            "refused 90 main.slint 1:1-1:1\n",
+        ),
+        (
+            &["main.slint"],
+            Some("component A { property <int> a: 2147483648; }"),
+            Status::Refused,
+            "refused 90 main.slint 1:1-1:1\n",
+        ),
+        (
+            &["main.slint"],
+            Some("component A { } // no"),
+            Status::Refused,
+            "refused 90 main.slint 1:1-1:1\n",
+        ),
+        (&[], Some("component A { }"), Status::Words, "words\n"),
+        (
+            &["main.slint", "x"],
+            Some("component A { }"),
+            Status::Words,
+            "words\n",
+        ),
+        (&["-x"], Some("component A { }"), Status::Words, "words\n"),
+    ] {
+        let mut given = Given::quiet(rt.alloc(), source, b"get root");
+        given.words = words;
+        let came = given.run(rt.alloc())?;
+        assert_eq!(rt; came.bytes.as_slice(), want.as_bytes(), "{source:?}");
+        assert!(rt; came.status == status, "{source:?}");
+        assert_eq!(rt; came.left == 0, status == Status::Done, "{source:?}");
+    }
+    Ok(())
+}
+
+/// That many times the byte.
+fn repeated(alloc: Global, byte: u8, count: usize) -> Result<Vec<u8>, AllocError> {
+    vec![in alloc; byte; count]
+}
+
+#[test]
+fn keeps_the_limits(rt: HostRuntime) -> Result<(), Fail> {
+    let source = component(rt.alloc(), FIRST)?;
+    for (digits, end, want) in [
+        (4084, "\n", "ok\n5\n"),
+        (4085, "\n", "refused 7\n2\n"),
+        (4084, "\r\n", "ok\n5\n"),
+        (4085, "\r\n", "refused 7\n2\n"),
+    ] {
+        let mut script = Vec::from_slice(rt.alloc(), b"set root.a ")?;
+        script.extend_from_slice(&repeated(rt.alloc(), b'0', digits)?)?;
+        script.extend_from_slice(b"5")?;
+        script.extend_from_slice(end.as_bytes())?;
+        script.extend_from_slice(b"get root.a")?;
+        let came = Given::quiet(rt.alloc(), Some(source.as_str()), &script).run(rt.alloc())?;
+        assert_eq!(rt; came.bytes.as_slice(), want.as_bytes(), "{digits}");
+    }
+    for (count, status, want) in [
+        (16_777_216, Status::Done, ""),
+        (16_777_217, Status::ScriptLong, "stopped 8\n"),
+    ] {
+        let script = repeated(rt.alloc(), b'\n', count)?;
+        let mut given = Given::quiet(rt.alloc(), Some(source.as_str()), &script);
+        given.piece = 100_000;
+        let came = given.run(rt.alloc())?;
+        assert_eq!(rt; came.bytes.as_slice(), want.as_bytes(), "{count}");
+        assert!(rt; came.status == status, "{count}");
+    }
+    for (count, status) in [(262_144, Status::Done), (262_145, Status::Refused)] {
+        let mut long = String::from_str(rt.alloc(), "component A { }")?;
+        while long.len() < count {
+            long.push(' ')?;
+        }
+        let came = Given::quiet(rt.alloc(), Some(long.as_str()), b"").run(rt.alloc())?;
+        assert!(rt; came.status == status, "{count}");
+    }
+    Ok(())
+}
+
+#[test]
+fn evaluates_a_long_chain(rt: HostRuntime) -> Result<(), Fail> {
+    let mut body = String::from_str(rt.alloc(), "property <int> p0: 1;\n")?;
+    for k in 1..5000u32 {
+        let before = k - 1;
+        let line = format!(in rt.alloc(); "property <int> p{k}: p{before} + p{before};\n")?;
+        body.push_str(line.as_str())?;
+    }
+    let source = component(rt.alloc(), body.as_str())?;
+    let came = Given::quiet(
+        rt.alloc(),
+        Some(source.as_str()),
+        b"get root.p4999\nset root.p4990 1\nget root.p4999",
+    )
+    .run(rt.alloc())?;
+    assert_eq!(rt; came.bytes.as_slice(), b"2147483647\nok\n512\n".as_slice());
+    Ok(())
+}
+
+#[test]
+fn ends_at_each_failing_call(rt: HostRuntime) -> Result<(), Fail> {
+    let source = component(rt.alloc(), FIRST)?;
+    let script = "get root.b\nset root.a 5\nget root.b\n";
+    let whole = b"6\nok\n15\n";
+    for call in 0..60u64 {
+        let mut given = Given::quiet(rt.alloc(), Some(source.as_str()), script.as_bytes());
+        given.files_fail.push(call)?;
+        let came = given.run(rt.alloc())?;
+        let status = if call == 0 {
+            Status::ReadFault
+        } else {
+            Status::Done
+        };
+        assert!(rt; came.status == status, "files {call}");
+        assert_eq!(rt; came.bytes.is_empty(), call == 0, "files {call}");
+
+        let mut given = Given::quiet(rt.alloc(), Some(source.as_str()), script.as_bytes());
+        given.piece = 1;
+        given.script_fail.push(call)?;
+        let came = given.run(rt.alloc())?;
+        let fails = call <= script.len() as u64;
+        let status = if fails {
+            Status::ReadFault
+        } else {
+            Status::Done
+        };
+        assert!(rt; came.status == status, "script {call}");
+        assert_eq!(rt; came.bytes.is_empty(), fails, "script {call}");
+
+        let mut given = Given::quiet(rt.alloc(), Some(source.as_str()), script.as_bytes());
+        given.piece = 1;
+        given.out_fail.push(call)?;
+        let came = given.run(rt.alloc())?;
+        let fails = call < whole.len() as u64;
+        let status = if fails {
+            Status::SinkFault
+        } else {
+            Status::Done
+        };
+        assert!(rt; came.status == status, "out {call}");
+        assert_eq!(rt;
+            came.bytes.len() as u64,
+            call.min(whole.len() as u64),
+            "out {call}"
+        );
+        assert!(rt; whole.starts_with(&came.bytes), "out {call}");
+    }
+    Ok(())
+}
