@@ -14,3 +14,6 @@ pub use names::Name;
 pub use numbers::{LIM, int_add, int_mul, int_sub};
 pub use rules::Rule;
 pub use texts::Text;
+
+#[cfg(test)]
+mod tests;

@@ -3,6 +3,7 @@ use Rattle.std.proofs.Common.{◌≡◌, ℕ, ℤ, Bool, true, false, cond, ◌|
 use Rattle.std.specs.Prelude.{codes, is_none, All}
 use Rattle.std.specs.List.{list_any}
 use Rattle.std.specs.Str.{bytes_eq}
+use Rattle.std.proofs.lemmas.Bool.{and_parts, cond-false}
 use Rattle.std.proofs.lemmas.List.{reverse-append}
 use Rattle.std.proofs.lemmas.List.Elements.{All-head, All-tail}
 use Rattle.std.proofs.lemmas.List.Folds.{list_any-append}
@@ -26,13 +27,9 @@ use Rattle.slint_meaning.specs.Values.{World, assign, assigned_or, assignment, l
 same_name : (name : List ℕ) → bytes_eq name name ≡ true
 same_name name = (bytes_eq-Decides name name).1 refl
 
--- an assignment under a name that the test holds for another
-latest_other : (test : Bool) (found later : Option ℤ) → test ≡ false → cond test found later ≡ later
-latest_other test found later e = rw e refl
-
--- a value was assigned to another property, or the same property
+-- an assignment of another property
 assign_keeps : (world : World) (other name : List ℕ) (value : ℤ) → bytes_eq other name ≡ false → assignment (assign world other value) name ≡ assignment world name
-assign_keeps world other name value e = latest_other (bytes_eq other name) (Some value) (latest world.assigned name) e
+assign_keeps world other name value e = cond-false (bytes_eq other name) (Some value) (latest world.assigned name) e
 
 -- what a turn does to the assignment of a name, unless it assigns one
 abbrev pub Keeps : World → List ℕ → World → Type 0
@@ -140,17 +137,13 @@ chosen_root : (a : Bool) (name : List ℕ) → cond a root nothing ≡ property 
 chosen_root true name e = cc
 chosen_root false name e = cc
 
-second_holds : (a b : Bool) → (a && b) ≡ true → b ≡ true
-second_holds true b e = e
-second_holds false b e = absurd cc
-
 -- a path leads to properties of the file alone
 leads_to_property : (file : FirstFile) (path : List PathStep) (name : List ℕ) → target_of file path ≡ property name → has_name (names_of file.props) name ≡ true
 leads_to_property file [] name e = absurd cc
 leads_to_property file (first ∷ []) name e = absurd (chosen_root (bytes_eq first.name (codes "root")) name e)
 leads_to_property file (first ∷ second ∷ []) name e =
     let chosen = chosen_property (bytes_eq first.name (codes "root")) (is_none second.row && has_name (names_of file.props) second.name) second.name name e in
-    ap (λ n. has_name (names_of file.props) n) (sym chosen.1) ∙ second_holds (is_none second.row) (has_name (names_of file.props) second.name) chosen.0
+    ap (λ n. has_name (names_of file.props) n) (sym chosen.1) ∙ (and_parts (is_none second.row) (has_name (names_of file.props) second.name) chosen.0).1
 leads_to_property file (first ∷ second ∷ third ∷ others) name e = absurd cc
 
 -- what is answered where a value is assigned
