@@ -6,10 +6,10 @@ use std::test::Fail;
 /// What a run is given: the words behind the program's name, the main file's text, the script, the most bytes that a call
 /// moves, and the numbers of the calls that fail.
 #[derive(Drop)]
-struct Given<'a> {
-    words: &'a [&'a str],
-    source: Option<&'a str>,
-    script: &'a [u8],
+struct Given<'w, 'm, 's> {
+    words: &'w [&'static str],
+    source: Option<&'m str>,
+    script: &'s [u8],
     piece: usize,
     files_fail: Vec<u64>,
     script_fail: Vec<u64>,
@@ -24,11 +24,16 @@ struct Came {
     left: usize,
 }
 
-impl Given<'_> {
-    /// A run of `main.slint` in which no call fails.
-    fn quiet<'a>(alloc: Global, source: Option<&'a str>, script: &'a [u8]) -> Given<'a> {
+impl<'w, 'm, 's> Given<'w, 'm, 's> {
+    /// A run in which no call fails.
+    fn quiet(
+        alloc: Global,
+        words: &'w [&'static str],
+        source: Option<&'m str>,
+        script: &'s [u8],
+    ) -> Given<'w, 'm, 's> {
         Given {
-            words: &["main.slint"],
+            words,
             source,
             script,
             piece: 4096,
@@ -124,9 +129,13 @@ fn answers_scripts(rt: HostRuntime) -> Result<(), Fail> {
         ),
     ] {
         let source = component(rt.alloc(), body)?;
-        let came = Given::quiet(rt.alloc(), Some(source.as_str()), script.as_bytes()).run(
+        let came = Given::quiet(
             rt.alloc(),
-        )?;
+            &["main.slint"],
+            Some(source.as_str()),
+            script.as_bytes(),
+        )
+        .run(rt.alloc())?;
         assert_eq!(rt; came.bytes.as_slice(), want.as_bytes(), "{script}");
         assert!(rt; came.status == Status::Done, "{script}");
     }
@@ -211,8 +220,7 @@ fn judges_sources(rt: HostRuntime) -> Result<(), Fail> {
         ),
         (&["-x"], Some("component A { }"), Status::Words, "words\n"),
     ] {
-        let mut given = Given::quiet(rt.alloc(), source, b"get root");
-        given.words = words;
+        let given = Given::quiet(rt.alloc(), words, source, b"get root");
         let came = given.run(rt.alloc())?;
         assert_eq!(rt; came.bytes.as_slice(), want.as_bytes(), "{source:?}");
         assert!(rt; came.status == status, "{source:?}");
@@ -240,7 +248,9 @@ fn keeps_the_limits(rt: HostRuntime) -> Result<(), Fail> {
         script.extend_from_slice(b"5")?;
         script.extend_from_slice(end.as_bytes())?;
         script.extend_from_slice(b"get root.a")?;
-        let came = Given::quiet(rt.alloc(), Some(source.as_str()), &script).run(rt.alloc())?;
+        let came = Given::quiet(rt.alloc(), &["main.slint"], Some(source.as_str()), &script).run(
+            rt.alloc(),
+        )?;
         assert_eq!(rt; came.bytes.as_slice(), want.as_bytes(), "{digits}");
     }
     for (count, status, want) in [
@@ -248,7 +258,7 @@ fn keeps_the_limits(rt: HostRuntime) -> Result<(), Fail> {
         (16_777_217, Status::ScriptLong, "stopped 8\n"),
     ] {
         let script = repeated(rt.alloc(), b'\n', count)?;
-        let mut given = Given::quiet(rt.alloc(), Some(source.as_str()), &script);
+        let mut given = Given::quiet(rt.alloc(), &["main.slint"], Some(source.as_str()), &script);
         given.piece = 100_000;
         let came = given.run(rt.alloc())?;
         assert_eq!(rt; came.bytes.as_slice(), want.as_bytes(), "{count}");
@@ -256,10 +266,12 @@ fn keeps_the_limits(rt: HostRuntime) -> Result<(), Fail> {
     }
     for (count, status) in [(262_144, Status::Done), (262_145, Status::Refused)] {
         let mut long = String::from_str(rt.alloc(), "component A { }")?;
-        while long.len() < count {
+        for _ in 15..count {
             long.push(' ')?;
         }
-        let came = Given::quiet(rt.alloc(), Some(long.as_str()), b"").run(rt.alloc())?;
+        let came = Given::quiet(rt.alloc(), &["main.slint"], Some(long.as_str()), b"").run(
+            rt.alloc(),
+        )?;
         assert!(rt; came.status == status, "{count}");
     }
     Ok(())
@@ -276,6 +288,7 @@ fn evaluates_a_long_chain(rt: HostRuntime) -> Result<(), Fail> {
     let source = component(rt.alloc(), body.as_str())?;
     let came = Given::quiet(
         rt.alloc(),
+        &["main.slint"],
         Some(source.as_str()),
         b"get root.p4999\nset root.p4990 1\nget root.p4999",
     )
@@ -290,7 +303,12 @@ fn ends_at_each_failing_call(rt: HostRuntime) -> Result<(), Fail> {
     let script = "get root.b\nset root.a 5\nget root.b\n";
     let whole = b"6\nok\n15\n";
     for call in 0..60u64 {
-        let mut given = Given::quiet(rt.alloc(), Some(source.as_str()), script.as_bytes());
+        let mut given = Given::quiet(
+            rt.alloc(),
+            &["main.slint"],
+            Some(source.as_str()),
+            script.as_bytes(),
+        );
         given.files_fail.push(call)?;
         let came = given.run(rt.alloc())?;
         let status = if call == 0 {
@@ -301,7 +319,12 @@ fn ends_at_each_failing_call(rt: HostRuntime) -> Result<(), Fail> {
         assert!(rt; came.status == status, "files {call}");
         assert_eq!(rt; came.bytes.is_empty(), call == 0, "files {call}");
 
-        let mut given = Given::quiet(rt.alloc(), Some(source.as_str()), script.as_bytes());
+        let mut given = Given::quiet(
+            rt.alloc(),
+            &["main.slint"],
+            Some(source.as_str()),
+            script.as_bytes(),
+        );
         given.piece = 1;
         given.script_fail.push(call)?;
         let came = given.run(rt.alloc())?;
@@ -314,7 +337,12 @@ fn ends_at_each_failing_call(rt: HostRuntime) -> Result<(), Fail> {
         assert!(rt; came.status == status, "script {call}");
         assert_eq!(rt; came.bytes.is_empty(), fails, "script {call}");
 
-        let mut given = Given::quiet(rt.alloc(), Some(source.as_str()), script.as_bytes());
+        let mut given = Given::quiet(
+            rt.alloc(),
+            &["main.slint"],
+            Some(source.as_str()),
+            script.as_bytes(),
+        );
         given.piece = 1;
         given.out_fail.push(call)?;
         let came = given.run(rt.alloc())?;
