@@ -1,5 +1,9 @@
+ghost use Rattle.std.specs.Prelude.{◌≡◌, ◌<◌, [], Some, map, string_bytes};
+ghost use Rattle.io_edge.specs.FileList.{file_list};
+ghost use Rattle.slint_cli.specs.Endings.{EndsAs, IsOwnStatus};
+
 use crate::{Status, slint_run};
-use io_edge::{MemFiles, MemSink, MemSource};
+use io_edge::{MemFiles, MemSink, MemSource, Sink};
 use std::alloc::{AllocError, Global};
 use std::test::Fail;
 
@@ -360,5 +364,38 @@ fn ends_at_each_failing_call(rt: HostRuntime) -> Result<(), Fail> {
         );
         assert!(rt; whole.starts_with(&came.bytes), "out {call}");
     }
+    Ok(())
+}
+
+/// Runs the program over objects in memory on which no call fails: it comes to the outcome of the run, or lacks memory.
+fn run_in_memory(
+    alloc: Global,
+    words: Vec<String>,
+    files: Vec<(String, Vec<u8>)>,
+    script: Vec<u8>,
+    piece: usize,
+) -> (Status, MemSink)
+    requires { 0 < piece }
+    ensures own { IsOwnStatus result.0 }
+    ensures ends { EndsAs (map string_bytes words.items) (file_list files.items) script.items result.0 (Some []) (⟦<MemSink as Sink>⟧.taken result.1) }
+{
+    let mut files = MemFiles::new(alloc, files, Vec::new(alloc));
+    let mut script = MemSource::new(alloc, script, piece, Vec::new(alloc));
+    let mut out = MemSink::new(alloc, piece, Vec::new(alloc));
+    let status = slint_run(alloc, words, &mut files, &mut script, &mut out);
+    (status, out)
+}
+
+#[test]
+fn comes_to_its_outcome(rt: HostRuntime) -> Result<(), Fail> {
+    let mut words = vec![in rt.alloc(); String::from_str(rt.alloc(), "slintrun")?]?;
+    words.push(String::from_str(rt.alloc(), "main.slint")?)?;
+    let source = component(rt.alloc(), FIRST)?;
+    let source = Vec::from_slice(rt.alloc(), source.as_bytes())?;
+    let files = vec![in rt.alloc(); (String::from_str(rt.alloc(), "main.slint")?, source)]?;
+    let script = Vec::from_slice(rt.alloc(), b"get root.b")?;
+    let (status, out) = run_in_memory(rt.alloc(), words, files, script, 1);
+    assert_eq!(rt; out.bytes(), b"6\n".as_slice());
+    assert!(rt; status == Status::Done);
     Ok(())
 }
