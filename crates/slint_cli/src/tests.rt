@@ -108,8 +108,8 @@ fn answers_scripts(rt: HostRuntime) -> Result<(), Fail> {
         ("", "\n\t \n// get root.a\n", ""),
         (
             FIRST,
-            "get\nget root\nget root.a x\nset root.a\nset root.a -\n",
-            "refused 1\nrefused 3\nrefused 1\nrefused 1\nrefused 4\n",
+            "get\nget root\nget root.a x\nset root.a\nset root.a -\nget root x\nget zz x\n",
+            "refused 1\nrefused 3\nrefused 1\nrefused 1\nrefused 4\nrefused 1\nrefused 1\n",
         ),
         (
             FIRST,
@@ -143,6 +143,16 @@ fn answers_scripts(rt: HostRuntime) -> Result<(), Fail> {
         assert_eq!(rt; came.bytes.as_slice(), want.as_bytes(), "{script}");
         assert!(rt; came.status == Status::Done, "{script}");
     }
+    // Bytes that are no text: passed over in a comment, and refused elsewhere.
+    let source = component(rt.alloc(), FIRST)?;
+    let script = b"//\xff\nget root.\xff\n\xc3\nset root.b 1\xff";
+    let came = Given::quiet(rt.alloc(), &["main.slint"], Some(source.as_str()), script).run(
+        rt.alloc(),
+    )?;
+    assert_eq!(rt;
+        came.bytes.as_slice(),
+        b"refused 1\nrefused 1\nrefused 1\n".as_slice()
+    );
     Ok(())
 }
 
@@ -241,21 +251,35 @@ fn repeated(alloc: Global, byte: u8, count: usize) -> Result<Vec<u8>, AllocError
 #[test]
 fn keeps_the_limits(rt: HostRuntime) -> Result<(), Fail> {
     let source = component(rt.alloc(), FIRST)?;
-    for (digits, end, want) in [
-        (4084, "\n", "ok\n5\n"),
-        (4085, "\n", "refused 7\n2\n"),
-        (4084, "\r\n", "ok\n5\n"),
-        (4085, "\r\n", "refused 7\n2\n"),
+    for (front, fill, want) in [
+        ("set root.a ", b'0', "ok\n"),
+        ("nonsense", b'x', "refused 1\n"),
+        ("get root.", b'z', "refused 2\n"),
+        ("get root", b' ', "refused 3\n"),
+        ("set root.a ", b'x', "refused 4\n"),
+        ("\t", b' ', ""),
+        ("//", b'x', ""),
     ] {
-        let mut script = Vec::from_slice(rt.alloc(), b"set root.a ")?;
-        script.extend_from_slice(&repeated(rt.alloc(), b'0', digits)?)?;
-        script.extend_from_slice(b"5")?;
-        script.extend_from_slice(end.as_bytes())?;
-        script.extend_from_slice(b"get root.a")?;
-        let came = Given::quiet(rt.alloc(), &["main.slint"], Some(source.as_str()), &script).run(
-            rt.alloc(),
-        )?;
-        assert_eq!(rt; came.bytes.as_slice(), want.as_bytes(), "{digits}");
+        for (length, end, want) in [
+            (4096usize, "\n", want),
+            (4096, "\r\n", want),
+            (4096, "", want),
+            (4097, "\n", "refused 7\n"),
+            (4097, "\r\n", "refused 7\n"),
+            (4097, "", "refused 7\n"),
+        ] {
+            let mut script = Vec::from_slice(rt.alloc(), front.as_bytes())?;
+            let filled = length.saturating_sub(front.len());
+            script.extend_from_slice(&repeated(rt.alloc(), fill, filled)?)?;
+            script.extend_from_slice(end.as_bytes())?;
+            let came = Given::quiet(
+                rt.alloc(),
+                &["main.slint"],
+                Some(source.as_str()),
+                &script,
+            ).run(rt.alloc())?;
+            assert_eq!(rt; came.bytes.as_slice(), want.as_bytes(), "{front} {length}");
+        }
     }
     for (count, status, want) in [
         (16_777_216, Status::Done, ""),
