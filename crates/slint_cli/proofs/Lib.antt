@@ -1,9 +1,7 @@
-pub mod EvaluatedValues
 pub mod FilesFound
 pub mod Judged
 pub mod LineCuts
 pub mod LineRuns
 pub mod NameLookups
-pub mod ResolvedSums
 pub mod RunEnds
 pub mod ScriptTaken

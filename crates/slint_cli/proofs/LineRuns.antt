@@ -4,7 +4,8 @@ use Rattle.slint_parser.specs.declared.trees.FirstFile.{FirstFile}
 use Rattle.slint_meaning.specs.Commands.{Turn, goes_on, halts, does_line}
 use Rattle.slint_meaning.specs.Runs.{Outcome, behind, after_turn, run_lines}
 use Rattle.slint_meaning.specs.Values.{World}
-use Rattle.slint_cli.specs.Live.{Live, Shows, Answers}
+use Rattle.first_evaluator.specs.Live.{Live, Shows}
+use Rattle.slint_cli.specs.Turns.{Answers}
 
 -- bytes before an outcome, one list after the other
 pub behind-append : (front answer : List ℕ) (outcome : Outcome) → behind front (behind answer outcome) ≡ behind (front ++ answer) outcome

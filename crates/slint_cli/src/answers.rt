@@ -2,9 +2,10 @@ ghost use Rattle.std.specs.Prelude.{◌≡◌, ◌<◌, ℕ, List, ◌++◌, len
 ghost use Rattle.slint_meaning.specs.Commands.{refusal_reply, value_reply, does_assign, does_get, does_set, does_command, does_line, target_of};
 ghost use Rattle.slint_meaning.specs.Sources.{names_of};
 ghost use Rattle.slint_meaning.specs.Values.{World};
-ghost use Rattle.slint_cli.specs.Live.{Shows, Answers, LeadsTo};
+ghost use Rattle.first_evaluator.specs.Live.{Shows};
+ghost use Rattle.slint_cli.specs.Turns.{Answers, LeadsTo};
 
-use crate::evaluator::Evaluator;
+use first_evaluator::Evaluator;
 use script_lines::{read_int, read_line};
 use slint_base::{End, Memory};
 use slint_meaning::{BadLine, Command, LineRefusal, Path};

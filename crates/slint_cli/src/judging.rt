@@ -1,7 +1,7 @@
 ghost use Rattle.std.specs.Prelude.{◌≡◌, IfOk, MatchOption};
 ghost use Rattle.slint_meaning.specs.Sources.{IsSource, NoSource};
 
-use crate::resolving::{Component, resolve};
+use first_evaluator::{Component, resolve};
 use slint_base::{End, Memory};
 use slint_lexer::lex;
 use slint_parser::parse_first;

@@ -2,10 +2,8 @@
 #![tactic(auto)]
 
 mod answers;
-mod evaluator;
 mod judging;
 mod replies;
-mod resolving;
 mod running;
 mod script;
 mod status;

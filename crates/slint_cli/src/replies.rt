@@ -5,9 +5,8 @@ ghost use Rattle.slint_meaning.specs.Values.{opening_world};
 ghost use Rattle.slint_meaning.specs.declared.commands.Ending.TheVariants as endings;
 ghost use Rattle.slint_cli.specs.Made.{outcome_of};
 
-use crate::evaluator::Evaluator;
-use crate::resolving::Component;
 use crate::script::{answer_lines, whole_part};
+use first_evaluator::{Component, Evaluator};
 use slint_base::Memory;
 use slint_meaning::Ending;
 use std::alloc::Global;

@@ -7,7 +7,7 @@ ghost use Rattle.slint_cli.specs.Running.{MissedFile, MissedWords, RanFile, RanS
 
 use crate::judging::judge;
 use crate::replies::{MOST_SCRIPT, Outcome, run_script};
-use crate::resolving::Component;
+use first_evaluator::Component;
 use io_edge::{Files, FilesEnd, Found, Source, SourceEnd, take_up_to};
 use slint_base::{Memory, Rule};
 use slint_meaning::Ending;

@@ -2,10 +2,10 @@ ghost use Rattle.std.specs.Prelude.{◌≡◌, ◌<◌, ◌∷◌, length, OnOk}
 ghost use Rattle.slint_meaning.specs.Lines.{lines_of, whole_lines};
 ghost use Rattle.slint_meaning.specs.Runs.{Outcome, behind, run_lines};
 ghost use Rattle.slint_meaning.specs.Values.{World};
-ghost use Rattle.slint_cli.specs.Live.{Shows};
+ghost use Rattle.first_evaluator.specs.Live.{Shows};
 
 use crate::answers::answer_line;
-use crate::evaluator::Evaluator;
+use first_evaluator::Evaluator;
 use slint_base::Memory;
 use std::alloc::Global;
 

@@ -3,7 +3,8 @@ use Rattle.std.specs.Prelude.{ℤ}
 use Rattle.std.proofs.lemmas.Result.{on_ok_weaker}
 use Rattle.slint_meaning.specs.Commands.{Target, property, does_assign, does_set, int_reading, target_of}
 use Rattle.slint_meaning.specs.Values.{World}
-use Rattle.slint_cli.specs.Live.{Live, Answers}
+use Rattle.first_evaluator.specs.Live.{Live}
+use Rattle.slint_cli.specs.Turns.{Answers}
 use Rattle.slint_cli.proofs.answers.answer_set.Goals as goal
 
 -- an assignment is what `set` does at a property where the text reads as that value

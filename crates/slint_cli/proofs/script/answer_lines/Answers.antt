@@ -3,7 +3,7 @@ use Rattle.slint_parser.specs.declared.trees.FirstFile.{FirstFile}
 use Rattle.slint_meaning.specs.Commands.{does_line}
 use Rattle.slint_meaning.specs.Lines.{lines_of}
 use Rattle.slint_meaning.specs.Runs.{behind, run_lines}
-use Rattle.slint_cli.specs.Live.{Answers}
+use Rattle.slint_cli.specs.Turns.{Answers}
 use Rattle.slint_cli.proofs.LineCuts.{lines_of-none}
 use Rattle.slint_cli.proofs.LineRuns.{run_lines-answered}
 use Rattle.slint_cli.proofs.script.answer_lines.Goals as goal

@@ -1,0 +1,2 @@
+pub mod EvaluatedValues
+pub mod ResolvedSums

@@ -1,6 +1,0 @@
-use Rattle.slint_cli.specs.Evaluated.{AreRight}
-use Rattle.slint_cli.proofs.evaluator.evaluate.Given as goal
-
--- the values before the place are right
-abbrev pub invariant-loop-at : goal.invariant-loop-at
-invariant-loop-at l = AreRight l.component l.assigned l.values l.at

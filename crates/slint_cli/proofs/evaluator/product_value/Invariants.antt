@@ -1,7 +1,0 @@
-use Rattle.std.proofs.Common.{◌≡◌, take}
-use Rattle.slint_cli.specs.Evaluated.{operands_product}
-use Rattle.slint_cli.proofs.evaluator.product_value.Given as goal
-
--- the product of the operands so far
-abbrev pub invariant-loop-operand : goal.invariant-loop-operand
-invariant-loop-operand l = l.product ≡ operands_product l.values (take l.operand-index l.operands)

@@ -1,5 +1,0 @@
-use Rattle.slint_cli.proofs.ResolvedSums.{bound_from_sums}
-use Rattle.slint_cli.proofs.resolving.Component.count.Goals as goal
-
-pub returns-clause-bound : goal.returns-clause-bound
-returns-clause-bound c = rw (← c.self.view_is) (bound_from_sums c.self.inside.file.props _ c.self.invariant.resolved)

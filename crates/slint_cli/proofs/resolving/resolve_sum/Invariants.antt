@@ -1,9 +1,0 @@
-use Rattle.std.proofs.Common.{◌≡◌, drop}
-use Rattle.std.specs.BTreeMap.{get_by_text}
-use Rattle.slint_cli.specs.Resolved.{sum_of}
-use Rattle.slint_cli.proofs.ResolvedSums.{behind_all}
-use Rattle.slint_cli.proofs.resolving.resolve_sum.Given as goal
-
--- what is made of all terms is the products so far and what is made of the others
-abbrev pub invariant-loop-factors : goal.invariant-loop-factors
-invariant-loop-factors l = sum_of (λ name. get_by_text l.places name) l.terms ≡ behind_all l.products (sum_of (λ name. get_by_text l.places name) (drop l.factors-index l.terms))
