@@ -1,5 +1,7 @@
-ghost use Rattle.std.specs.Prelude.{◌≡◌, ℕ, ◌↔◌, List, [], IsTrue, Contains, MatchBool, false};
-ghost use Rattle.io_edge.specs.Counts.{Rose};
+ghost use Rattle.std.specs.Prelude.{◌≡◌, ◌↔◌, IsTrue, if◌then◌else◌};
+ghost use Rattle.io_edge.specs.Planned.{FailsNext, failed, passed, planned};
+
+use std::marker::Model;
 
 /// The calls that an object in memory had, some of which fail by plan.
 #[derive(Debug, Drop)]
@@ -12,11 +14,17 @@ pub(crate) struct Calls {
     faults: u64,
 }
 
+impl Model for Calls {
+    ghost use Rattle.io_edge.specs.Planned.{Plan};
+
+    ghost Value = { Plan };
+
+    ghost view = { λ c. record { fail = c.fail.items; made = c.made; faults = c.faults } };
+}
+
 impl Calls {
     pub(crate) fn new(fail: Vec<u64>) -> Calls
-        ensures plan { result.fail.items ≡ fail.items }
-        ensures made { result.made ≡ 0 }
-        ensures faults { result.faults ≡ 0 }
+        ensures { result ≡ planned fail.items }
     {
         Calls {
             fail,
@@ -27,10 +35,8 @@ impl Calls {
 
     /// Counts one more call, and says whether it fails.
     pub(crate) fn is_failing(&mut self) -> bool
-        ensures fails { IsTrue result ↔ Contains self.old.fail.items self.old.made }
-        ensures plan { self.new.fail.items ≡ self.old.fail.items }
-        ensures counted { MatchBool result (Rose self.old.faults self.new.faults) (self.new.faults ≡ self.old.faults) }
-        ensures steady { self.old.fail.items ≡ [] → result ≡ false }
+        ensures fails { IsTrue result ↔ FailsNext self.old }
+        ensures after { self.new ≡ if result then failed self.old else passed self.old }
     {
         let fails = self.fail.contains(&self.made);
         self.made = self.made.saturating_add(1);

@@ -1,10 +1,13 @@
 ghost use Rattle.std.specs.Prelude.{◌≡◌, ℕ, List, [], Some, Option, IfOk, MatchOption, IsSome, option_map, take, length};
-ghost use Rattle.io_edge.specs.Files.{bytes_named, most_read};
+ghost use Rattle.io_edge.specs.Counts.{IsQuiet};
+ghost use Rattle.io_edge.specs.Files.{bytes_named, most_read, Finds, FilesCount};
+ghost use Rattle.io_edge.specs.Planned.{planned, FindsAsPlanned};
 ghost use Rattle.io_edge.specs.FileList.{file_list};
 
 use crate::calls::Calls;
 use crate::file_map::{Files, FilesEnd, Found, MOST_READ};
 use std::alloc::{AllocError, Global};
+use std::marker::Model;
 
 /// Files in memory, where the calls with given numbers fail.
 #[derive(Debug, Drop)]
@@ -15,10 +18,20 @@ pub struct MemFiles {
     calls: Calls,
 }
 
+impl Model for MemFiles {
+    ghost use Rattle.io_edge.specs.FileList.{file_list};
+    ghost use Rattle.io_edge.specs.Planned.{Folder};
+
+    ghost Value = { Folder };
+
+    ghost view = { λ s. record { files = file_list s.files.items; misses = s.misses; plan = s.calls } };
+}
+
 impl MemFiles {
     /// These files by their names, of equal names the first; a read fails at the calls whose numbers,
     /// from 0, `fail` has.
     pub fn new(alloc: Global, files: Vec<(String, Vec<u8>)>, fail: Vec<u64>) -> MemFiles
+        ensures made { result ≡ record { files = file_list files.items; misses = 0; plan = planned fail.items } }
         ensures held { ⟦<MemFiles as Files>⟧.held result ≡ Some (file_list files.items) }
         ensures faults { ⟦<MemFiles as Files>⟧.faults result ≡ 0 }
         ensures misses { ⟦<MemFiles as Files>⟧.misses result ≡ 0 }
@@ -48,15 +61,21 @@ impl MemFiles {
 }
 
 impl Files for MemFiles {
-    ghost held = { λ s. Some (file_list s.files.items) };
+    ghost held = { λ s. Some s.files };
 
-    ghost faults = { λ s. s.calls.faults };
+    ghost faults = { λ s. s.plan.faults };
 
     ghost misses = { λ s. s.misses };
 
-    ghost is_steady = { λ s. s.calls.fail.items ≡ [] };
+    ghost is_steady = { λ s. s.plan.fail ≡ [] };
 
-    fn read(&mut self, alloc: Global, name: &str) -> Result<Found, FilesEnd> {
+    fn read(&mut self, alloc: Global, name: &str) -> Result<Found, FilesEnd>
+        ensures planned { FindsAsPlanned self.old result self.new }
+        ensures found { IfOk result (Finds (Some self.old.files) name.now) }
+        ensures same_map { Some self.new.files ≡ Some self.old.files }
+        ensures counted { FilesCount result self.old.plan.faults self.new.plan.faults self.old.misses self.new.misses }
+        ensures steady { self.old.plan.fail ≡ [] → IsQuiet (self.new.plan.fail ≡ []) self.old.plan.faults self.new.plan.faults }
+    {
         if self.calls.is_failing() {
             return Err(FilesEnd::Failed);
         }

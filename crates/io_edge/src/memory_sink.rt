@@ -1,8 +1,13 @@
-ghost use Rattle.std.specs.Prelude.{◌≡◌, ℕ, ◌<◌, List, [], Some};
+ghost use Rattle.std.specs.Prelude.{◌≡◌, ℕ, ◌<◌, ◌≤◌, List, [], Some, Option, IfOk, OnErr, length, take};
+ghost use Rattle.std.specs.Io.KnownBytes.{Appends, Keeps};
+ghost use Rattle.io_edge.specs.Counts.{IsQuiet};
+ghost use Rattle.io_edge.specs.Streams.{SinkCount};
+ghost use Rattle.io_edge.specs.Planned.{planned, WritesAsPlanned};
 
 use crate::byte_sink::{Sink, SinkEnd};
 use crate::calls::Calls;
 use std::alloc::Global;
+use std::marker::Model;
 
 /// Bytes in memory that are written at the end, where the calls with given numbers fail.
 #[derive(Debug, Drop)]
@@ -10,7 +15,17 @@ pub struct MemSink {
     taken: Vec<u8>,
     piece: usize,
     calls: Calls,
-    ghost moves: { 0 < piece },
+}
+
+impl Model for MemSink {
+    ghost use Rattle.std.specs.Prelude.{◌<◌};
+    ghost use Rattle.io_edge.specs.Planned.{Stream};
+
+    ghost Value = { Stream };
+
+    ghost view = { λ s. record { bytes = s.taken.items; piece = s.piece; plan = s.calls } };
+
+    ghost invariant = { λ s. 0 < s.piece };
 }
 
 impl MemSink {
@@ -18,6 +33,7 @@ impl MemSink {
     /// numbers, from 0, `fail` has.
     pub fn new(alloc: Global, piece: usize, fail: Vec<u64>) -> MemSink
         requires { 0 < piece }
+        ensures made { result ≡ record { bytes = []; piece = piece; plan = planned fail.items } }
         ensures taken { ⟦<MemSink as Sink>⟧.taken result ≡ Some [] }
         ensures faults { ⟦<MemSink as Sink>⟧.faults result ≡ 0 }
         ensures steady { fail.items ≡ [] → ⟦<MemSink as Sink>⟧.is_steady result }
@@ -45,13 +61,20 @@ impl MemSink {
 }
 
 impl Sink for MemSink {
-    ghost taken = { λ s. Some s.taken.items };
+    ghost taken = { λ s. Some s.bytes };
 
-    ghost faults = { λ s. s.calls.faults };
+    ghost faults = { λ s. s.plan.faults };
 
-    ghost is_steady = { λ s. s.calls.fail.items ≡ [] };
+    ghost is_steady = { λ s. s.plan.fail ≡ [] };
 
-    fn write(&mut self, buf: &[u8]) -> Result<usize, SinkEnd> {
+    fn write(&mut self, buf: &[u8]) -> Result<usize, SinkEnd>
+        ensures planned { WritesAsPlanned self.old buf.now result self.new }
+        ensures bound { IfOk result (λ n. n ≤ length buf.now) }
+        ensures added { IfOk result (λ n. Appends (Some self.old.bytes) (Some self.new.bytes) (take n buf.now)) }
+        ensures kept { OnErr result (Keeps (Some self.old.bytes) (Some self.new.bytes)) }
+        ensures counted { SinkCount result (length buf.now) self.old.plan.faults self.new.plan.faults }
+        ensures steady { self.old.plan.fail ≡ [] → IsQuiet (self.new.plan.fail ≡ []) self.old.plan.faults self.new.plan.faults }
+    {
         if self.calls.is_failing() {
             return Err(SinkEnd::Failed);
         }

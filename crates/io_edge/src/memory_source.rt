@@ -1,8 +1,13 @@
-ghost use Rattle.std.specs.Prelude.{◌≡◌, ℕ, ◌<◌, ◌≤◌, List, [], Some, drop, vec_len};
+ghost use Rattle.std.specs.Prelude.{◌≡◌, ℕ, ◌<◌, ◌≤◌, List, [], Some, Option, IfOk, OnErr, drop, length, take, vec_len};
+ghost use Rattle.std.specs.Io.KnownBytes.{Consumes, Keeps};
+ghost use Rattle.io_edge.specs.Counts.{IsQuiet};
+ghost use Rattle.io_edge.specs.Streams.{EndsOnly, SourceCount};
+ghost use Rattle.io_edge.specs.Planned.{planned, ReadsAsPlanned};
 
 use crate::byte_source::{Failed, Source};
 use crate::calls::Calls;
 use std::alloc::Global;
+use std::marker::Model;
 
 /// Bytes in memory that are read from the front, where the calls with given numbers fail.
 #[derive(Debug, Drop)]
@@ -12,8 +17,17 @@ pub struct MemSource {
     at: usize,
     piece: usize,
     calls: Calls,
-    ghost moves: { 0 < piece },
-    ghost inside: { at ≤ vec_len bytes },
+}
+
+impl Model for MemSource {
+    ghost use Rattle.std.specs.Prelude.{◌<◌, ◌≤◌, drop, vec_len};
+    ghost use Rattle.io_edge.specs.Planned.{Stream};
+
+    ghost Value = { Stream };
+
+    ghost view = { λ s. record { bytes = drop s.at s.bytes.items; piece = s.piece; plan = s.calls } };
+
+    ghost invariant = { λ s. (0 < s.piece) × (s.at ≤ vec_len s.bytes) };
 }
 
 impl MemSource {
@@ -21,6 +35,7 @@ impl MemSource {
     /// numbers, from 0, `fail` has.
     pub fn new(alloc: Global, bytes: Vec<u8>, piece: usize, fail: Vec<u64>) -> MemSource
         requires { 0 < piece }
+        ensures made { result ≡ record { bytes = bytes.items; piece = piece; plan = planned fail.items } }
         ensures left { ⟦<MemSource as Source>⟧.left result ≡ Some bytes.items }
         ensures faults { ⟦<MemSource as Source>⟧.faults result ≡ 0 }
         ensures steady { fail.items ≡ [] → ⟦<MemSource as Source>⟧.is_steady result }
@@ -50,13 +65,21 @@ impl MemSource {
 }
 
 impl Source for MemSource {
-    ghost left = { λ s. Some (drop s.at s.bytes.items) };
+    ghost left = { λ s. Some s.bytes };
 
-    ghost faults = { λ s. s.calls.faults };
+    ghost faults = { λ s. s.plan.faults };
 
-    ghost is_steady = { λ s. s.calls.fail.items ≡ [] };
+    ghost is_steady = { λ s. s.plan.fail ≡ [] };
 
-    fn read(&mut self, buf: &mut [u8]) -> Result<usize, Failed> {
+    fn read(&mut self, buf: &mut [u8]) -> Result<usize, Failed>
+        ensures planned { ReadsAsPlanned self.old buf.old result buf.new self.new }
+        ensures bound { IfOk result (λ n. n ≤ length buf.new) }
+        ensures taken { IfOk result (λ n. Consumes (Some self.old.bytes) (Some self.new.bytes) (take n buf.new)) }
+        ensures ended { IfOk result (λ n. EndsOnly n (length buf.new) (Some self.new.bytes)) }
+        ensures kept { OnErr result (Keeps (Some self.old.bytes) (Some self.new.bytes)) }
+        ensures counted { SourceCount result self.old.plan.faults self.new.plan.faults }
+        ensures steady { self.old.plan.fail ≡ [] → IsQuiet (self.new.plan.fail ≡ []) self.old.plan.faults self.new.plan.faults }
+    {
         if self.calls.is_failing() {
             return Err(Failed);
         }
