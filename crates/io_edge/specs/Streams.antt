@@ -6,6 +6,11 @@ use Rattle.io_edge.specs.declared.byte_sink.SinkEnd.{SinkEnd}
 use Rattle.io_edge.specs.declared.byte_sink.SinkEnd.TheVariants.{Failed, Memory}
 use Rattle.io_edge.specs.Counts.{Rose}
 
+-- what is behind a stream: its bytes, where the reader or writer tells them, and how many calls failed
+pub record Carried : Type 0 where
+  pub bytes : Option (List ℕ)
+  pub faults : ℕ
+
 -- a read gave n bytes with room for some: none only where no byte is left
 abbrev pub EndsOnly : ℕ → ℕ → Option (List ℕ) → Type 0
 EndsOnly n room left = n ≡ 0 → 0 < room → IsAtEnd left

@@ -1,5 +1,5 @@
 ghost use Rattle.std.specs.Prelude.{◌≡◌, ℕ, ◌≤◌, List, Option, IfOk, OnErr, length, take};
-ghost use Rattle.std.specs.Io.KnownBytes.{Appends, Keeps};
+ghost use Rattle.std.specs.Io.KnownBytes.{Appends};
 ghost use Rattle.io_edge.specs.Counts.{IsQuiet};
 ghost use Rattle.io_edge.specs.Streams.{SinkCount};
 
@@ -26,7 +26,7 @@ pub trait Sink {
     fn write(&mut self, buf: &[u8]) -> Result<usize, SinkEnd>
         ensures bound { IfOk result (λ n. n ≤ length buf.now) }
         ensures added { IfOk result (λ n. Appends (taken self.old) (taken self.new) (take n buf.now)) }
-        ensures kept { OnErr result (Keeps (taken self.old) (taken self.new)) }
+        ensures kept { OnErr result (taken self.new ≡ taken self.old) }
         ensures counted { SinkCount result (length buf.now) (faults self.old) (faults self.new) }
         ensures steady { is_steady self.old → IsQuiet (is_steady self.new) (faults self.old) (faults self.new) };
 }

@@ -1,5 +1,5 @@
 ghost use Rattle.std.specs.Prelude.{◌≡◌, ℕ, ◌≤◌, List, Option, IfOk, OnErr, length, take};
-ghost use Rattle.std.specs.Io.KnownBytes.{Consumes, Keeps};
+ghost use Rattle.std.specs.Io.KnownBytes.{Consumes};
 ghost use Rattle.io_edge.specs.Counts.{IsQuiet};
 ghost use Rattle.io_edge.specs.Streams.{EndsOnly, SourceCount};
 
@@ -24,7 +24,7 @@ pub trait Source {
         ensures bound { IfOk result (λ n. n ≤ length buf.new) }
         ensures taken { IfOk result (λ n. Consumes (left self.old) (left self.new) (take n buf.new)) }
         ensures ended { IfOk result (λ n. EndsOnly n (length buf.new) (left self.new)) }
-        ensures kept { OnErr result (Keeps (left self.old) (left self.new)) }
+        ensures kept { OnErr result (left self.new ≡ left self.old) }
         ensures counted { SourceCount result (faults self.old) (faults self.new) }
         ensures steady { is_steady self.old → IsQuiet (is_steady self.new) (faults self.old) (faults self.new) };
 }

@@ -1,5 +1,5 @@
 ghost use Rattle.std.specs.Prelude.{◌≡◌, ℕ, ◌<◌, ◌≤◌, List, [], Some, Option, IfOk, OnErr, length, take};
-ghost use Rattle.std.specs.Io.KnownBytes.{Appends, Keeps};
+ghost use Rattle.std.specs.Io.KnownBytes.{Appends};
 ghost use Rattle.io_edge.specs.Counts.{IsQuiet};
 ghost use Rattle.io_edge.specs.Streams.{SinkCount};
 ghost use Rattle.io_edge.specs.Planned.{planned, WritesAsPlanned};
@@ -71,7 +71,7 @@ impl Sink for MemSink {
         ensures planned { WritesAsPlanned self.old buf.now result self.new }
         ensures bound { IfOk result (λ n. n ≤ length buf.now) }
         ensures added { IfOk result (λ n. Appends (Some self.old.bytes) (Some self.new.bytes) (take n buf.now)) }
-        ensures kept { OnErr result (Keeps (Some self.old.bytes) (Some self.new.bytes)) }
+        ensures kept { OnErr result (Some self.new.bytes ≡ Some self.old.bytes) }
         ensures counted { SinkCount result (length buf.now) self.old.plan.faults self.new.plan.faults }
         ensures steady { self.old.plan.fail ≡ [] → IsQuiet (self.new.plan.fail ≡ []) self.old.plan.faults self.new.plan.faults }
     {

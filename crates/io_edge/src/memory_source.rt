@@ -1,5 +1,5 @@
 ghost use Rattle.std.specs.Prelude.{◌≡◌, ℕ, ◌<◌, ◌≤◌, List, [], Some, Option, IfOk, OnErr, drop, length, take, vec_len};
-ghost use Rattle.std.specs.Io.KnownBytes.{Consumes, Keeps};
+ghost use Rattle.std.specs.Io.KnownBytes.{Consumes};
 ghost use Rattle.io_edge.specs.Counts.{IsQuiet};
 ghost use Rattle.io_edge.specs.Streams.{EndsOnly, SourceCount};
 ghost use Rattle.io_edge.specs.Planned.{planned, ReadsAsPlanned};
@@ -76,7 +76,7 @@ impl Source for MemSource {
         ensures bound { IfOk result (λ n. n ≤ length buf.new) }
         ensures taken { IfOk result (λ n. Consumes (Some self.old.bytes) (Some self.new.bytes) (take n buf.new)) }
         ensures ended { IfOk result (λ n. EndsOnly n (length buf.new) (Some self.new.bytes)) }
-        ensures kept { OnErr result (Keeps (Some self.old.bytes) (Some self.new.bytes)) }
+        ensures kept { OnErr result (Some self.new.bytes ≡ Some self.old.bytes) }
         ensures counted { SourceCount result self.old.plan.faults self.new.plan.faults }
         ensures steady { self.old.plan.fail ≡ [] → IsQuiet (self.new.plan.fail ≡ []) self.old.plan.faults self.new.plan.faults }
     {

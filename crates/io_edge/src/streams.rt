@@ -1,21 +1,34 @@
-ghost use Rattle.std.specs.Prelude.{◌≡◌, ℕ, ◌≤◌, ◌<◌, IfOk, OnErr, length, take};
-ghost use Rattle.std.specs.Io.KnownBytes.{Appends, Consumes, IsAtEnd, Keeps};
+ghost use Rattle.std.specs.Prelude.{◌≡◌, ℕ, ◌≤◌, ◌<◌, List, None, Option, IfOk, OnErr, length, take};
+ghost use Rattle.std.specs.Io.KnownBytes.{Appends, Consumes, IsAtEnd, Keeps, ReadConsumes, WriteAppends};
+ghost use Rattle.io_edge.specs.Counts.{IsQuiet};
+ghost use Rattle.io_edge.specs.Streams.{EndsOnly, SinkCount, SourceCount};
 
 use crate::byte_sink::{Sink, SinkEnd};
 use crate::byte_source::{Failed, Source};
 use std::io;
 use std::io::{ErrorKind, Read, Write};
+use std::marker::Model;
 
-/// A reader as a source. A read that a signal interrupts is tried again.
+/// A reader as a source, which tells no bytes to who calls it as one; its own clauses say what became of those that the reader tells.
+/// A read that a signal interrupts is tried again.
 #[derive(Debug, Drop)]
-pub struct StreamSource<R> {
+pub struct StreamSource<R: Read> {
     inner: R,
     faults: u64,
 }
 
+impl<R: Read> Model for StreamSource<R> {
+    ghost use Rattle.io_edge.specs.Streams.{Carried};
+
+    ghost Value = { Carried };
+
+    ghost view = { λ s. record { bytes = R.remaining s.inner; faults = s.faults } };
+}
+
 impl<R: Read> StreamSource<R> {
     pub fn new(inner: R) -> StreamSource<R>
-        ensures left { ⟦<StreamSource<R> as Source>⟧.left result ≡ R.remaining inner }
+        ensures carries { result.bytes ≡ R.remaining inner }
+        ensures left { ⟦<StreamSource<R> as Source>⟧.left result ≡ None }
         ensures faults { ⟦<StreamSource<R> as Source>⟧.faults result ≡ 0 }
     {
         StreamSource { inner, faults: 0 }
@@ -30,14 +43,18 @@ impl<R: Read> StreamSource<R> {
 }
 
 impl<R: Read> Source for StreamSource<R> {
-    ghost left = { λ s. R.remaining s.inner };
+    ghost left = { λ _. None };
 
     ghost faults = { λ s. s.faults };
 
     // a reader may fail at any call
     ghost is_steady = { λ _. ⊥ };
 
-    fn read(&mut self, buf: &mut [u8]) -> Result<usize, Failed> {
+    fn read(&mut self, buf: &mut [u8]) -> Result<usize, Failed>
+        ensures carried { ReadConsumes self.old.bytes self.new.bytes result buf.new }
+        ensures bound { IfOk result (λ n. n ≤ length buf.new) }
+        ensures counted { SourceCount result self.old.faults self.new.faults }
+    {
         match read_through(&mut self.inner, buf) {
             Ok(count) => Ok(count),
             Err(_) => {
@@ -48,17 +65,27 @@ impl<R: Read> Source for StreamSource<R> {
     }
 }
 
-/// A writer as a sink. A write that a signal interrupts is tried again, and one that takes nothing of
+/// A writer as a sink, which tells no bytes to who calls it as one; its own clauses say what became of those that the writer tells.
+/// A write that a signal interrupts is tried again, and one that takes nothing of
 /// some bytes has failed.
 #[derive(Debug, Drop)]
-pub struct StreamSink<W> {
+pub struct StreamSink<W: Write> {
     inner: W,
     faults: u64,
 }
 
+impl<W: Write> Model for StreamSink<W> {
+    ghost use Rattle.io_edge.specs.Streams.{Carried};
+
+    ghost Value = { Carried };
+
+    ghost view = { λ s. record { bytes = W.contents s.inner; faults = s.faults } };
+}
+
 impl<W: Write> StreamSink<W> {
     pub fn new(inner: W) -> StreamSink<W>
-        ensures taken { ⟦<StreamSink<W> as Sink>⟧.taken result ≡ W.contents inner }
+        ensures carries { result.bytes ≡ W.contents inner }
+        ensures taken { ⟦<StreamSink<W> as Sink>⟧.taken result ≡ None }
         ensures faults { ⟦<StreamSink<W> as Sink>⟧.faults result ≡ 0 }
     {
         StreamSink { inner, faults: 0 }
@@ -73,14 +100,18 @@ impl<W: Write> StreamSink<W> {
 }
 
 impl<W: Write> Sink for StreamSink<W> {
-    ghost taken = { λ s. W.contents s.inner };
+    ghost taken = { λ _. None };
 
     ghost faults = { λ s. s.faults };
 
     // a writer may fail at any call
     ghost is_steady = { λ _. ⊥ };
 
-    fn write(&mut self, buf: &[u8]) -> Result<usize, SinkEnd> {
+    fn write(&mut self, buf: &[u8]) -> Result<usize, SinkEnd>
+        ensures carried { WriteAppends self.old.bytes self.new.bytes result buf.now }
+        ensures bound { IfOk result (λ n. n ≤ length buf.now) }
+        ensures counted { SinkCount result (length buf.now) self.old.faults self.new.faults }
+    {
         match write_through(&mut self.inner, buf) {
             Ok(count) if count > 0 || buf.is_empty() => Ok(count),
             _ => {
