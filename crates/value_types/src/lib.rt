@@ -1,0 +1,16 @@
+//! The values of the language and their types.
+#![tactic(auto)]
+
+mod defaults;
+mod enums;
+mod facets;
+mod sameness;
+mod types;
+mod values;
+
+pub use defaults::default_of;
+pub use enums::{EnumNames, Enums};
+pub use facets::Facet;
+pub use sameness::same;
+pub use types::{Fields, Ty};
+pub use values::{FieldValues, KeyList, PlaceList, RowPlace, Value, Values};
