@@ -1,10 +1,12 @@
 //! The values of the language and their types.
 #![tactic(auto)]
 
+mod decimals;
 mod defaults;
 mod enums;
 mod facets;
 mod sameness;
+mod scalars;
 mod types;
 mod values;
 
