@@ -77,9 +77,11 @@ abbrev pub field_in : List (List ℕ × (Ty → Option Value)) → List ℕ × T
 field_in fields wanted = option_map (λ v. (wanted.0, v)) (field_from (field_named wanted.0 fields) wanted.1)
 
 -- a struct becomes one with more fields or one with fewer
+abbrev pub fields_in : List (List ℕ × (Ty → Option Value)) → List (List ℕ × Ty) → Option Value
+fields_in fields wanted = if names_within fields wanted || names_within wanted fields then option_map value.Struct (all_of (map (λ field. field_in fields field) wanted)) else None
+
 abbrev pub struct_in : List (List ℕ × (Ty → Option Value)) → Form → Option Value
-struct_in fields (form.Struct wanted) = if names_within fields wanted || names_within wanted fields
-    then option_map value.Struct (all_of (map (λ field. field_in fields field) wanted)) else None
+struct_in fields (form.Struct wanted) = fields_in fields wanted
 struct_in fields _ = None
 
 -- an array is converted item by item, and one without items becomes any array

@@ -1,6 +1,7 @@
 //! The values of the language and their types.
 #![tactic(auto)]
 
+mod converting;
 mod decimals;
 mod defaults;
 mod enums;
@@ -10,6 +11,7 @@ mod scalars;
 mod types;
 mod values;
 
+pub use converting::convert;
 pub use defaults::default_of;
 pub use enums::{EnumNames, Enums};
 pub use facets::Facet;
