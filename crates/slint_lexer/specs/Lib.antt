@@ -1,4 +1,1 @@
-pub mod Bytes
-pub mod Reading
-pub mod Tokens
-pub use Rattle.slint_base.specs.Names
+
