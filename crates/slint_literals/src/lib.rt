@@ -1,6 +1,11 @@
 //! The written forms of values that sources and scripts share: numbers, colours, and the insides of strings.
 #![tactic(auto)]
 
+mod characters;
+mod hexadecimal;
 mod numbers;
+mod strings;
 
+pub use characters::{char_len, front_char};
 pub use numbers::Number;
+pub use strings::{Look, Run, text_look, text_run};

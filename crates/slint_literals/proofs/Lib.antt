@@ -1,0 +1,5 @@
+pub mod Choices
+pub mod Hex
+pub mod Chars
+pub mod Looks
+pub mod Runs
