@@ -3,3 +3,4 @@ pub mod Hex
 pub mod Chars
 pub mod Looks
 pub mod Runs
+pub mod Worths

@@ -2,10 +2,13 @@
 #![tactic(auto)]
 
 mod characters;
+mod colours;
 mod hexadecimal;
+mod measures;
 mod numbers;
 mod strings;
 
 pub use characters::{char_len, front_char};
+pub use colours::read_colour;
 pub use numbers::Number;
 pub use strings::{Look, Run, text_look, text_run};
