@@ -1,12 +1,11 @@
 -- The character at the front of bytes.
-use Rattle.std.proofs.Common.{◌≡◌, ℕ, zero, suc, ◌+◌, ◌-◌, ◌<◌, ◌≤◌, Bool, true, false, cond, eqb, ◌⊎◌, inl, inr, Option, Some, None, List, [], ◌∷◌, ◌++◌, length, take, drop, get_or, refl, sym, ap, ◌∙◌, subst, arith}
+use Rattle.std.proofs.Common.{◌≡◌, ℕ, zero, suc, ◌+◌, ◌<◌, ◌≤◌, Bool, true, false, cond, eqb, inl, inr, Some, None, List, [], ◌∷◌, ◌++◌, length, take, drop, get_or, refl, sym, ap, ◌∙◌, arith}
 use Rattle.std.proofs.Math.Utf8.{scalar, scalars, encode, encodes}
 use Rattle.std.proofs.lemmas.Bool.{cases_lt}
 use Rattle.std.proofs.lemmas.Bool.Decides.{nat_tests}
 use Rattle.std.proofs.lemmas.List.{length-append, length-take-le, take-append-drop, take-append-le, take_at, take_all, drop_at, append_assoc, append-nil}
 use Rattle.std.proofs.lemmas.Str.{encode_same, IsUtf8-from_is_utf8, is_utf8-from_IsUtf8, IsUtf8-nil, chars-encodes, len_utf8_bounds, length-encode}
 use Rattle.std.specs.Str.{IsUtf8, is_utf8, chars}
-use Rattle.std.specs.Char.{len_utf8}
 use Rattle.slint_literals.specs.Characters.{first_passed, char_len, front_char}
 use Rattle.slint_literals.proofs.Choices.{both, tested}
 
@@ -75,15 +74,15 @@ char_len_le (b ∷ s) =
     let l = shortest b s in
     let n = char_len (b ∷ s) in
     elim (cases_lt (length (b ∷ s)) n) as (λ _. char_len (b ∷ s) ≤ length (b ∷ s)) [
-    | inl less ↦
-      let fails : is_utf8 (take (length (b ∷ s)) (b ∷ s)) ≡ false = l.before (length (b ∷ s)) (omega arith) less in
-      let passes : is_utf8 (take n (b ∷ s)) ≡ true = l.passes (omega arith) in
-      let whole : take (length (b ∷ s)) (b ∷ s) ≡ b ∷ s = take_all (length (b ∷ s)) (b ∷ s) (omega arith) in
-      let more : take n (b ∷ s) ≡ b ∷ s = take_all n (b ∷ s) (omega arith) in
-      let fails_whole : is_utf8 (b ∷ s) ≡ false = ap is_utf8 (sym whole) ∙ fails in
-      let passes_whole : is_utf8 (b ∷ s) ≡ true = ap is_utf8 (sym more) ∙ passes in
-      cc
-    | inr least ↦ omega arith
+      | inl less ↦
+          let fails : is_utf8 (take (length (b ∷ s)) (b ∷ s)) ≡ false = l.before (length (b ∷ s)) (omega arith) less in
+          let passes : is_utf8 (take n (b ∷ s)) ≡ true = l.passes (omega arith) in
+          let whole : take (length (b ∷ s)) (b ∷ s) ≡ b ∷ s = take_all (length (b ∷ s)) (b ∷ s) (omega arith) in
+          let more : take n (b ∷ s) ≡ b ∷ s = take_all n (b ∷ s) (omega arith) in
+          let fails_whole : is_utf8 (b ∷ s) ≡ false = ap is_utf8 (sym whole) ∙ fails in
+          let passes_whole : is_utf8 (b ∷ s) ≡ true = ap is_utf8 (sym more) ∙ passes in
+          cc
+      | inr least ↦ omega arith
     ]
 
 utf8_by : (s : List ℕ) (n : ℕ) → (0 < n → is_utf8 (take n s) ≡ true) → IsUtf8 (take n s)
@@ -96,14 +95,14 @@ char_utf8 (b ∷ s) = utf8_by (b ∷ s) (char_len (b ∷ s)) (shortest b s).pass
 
 -- a front of a character is no text
 
-bounded : (c : ℕ) → (1 ≤ length (encode c)) × (length (encode c) ≤ 4)
+pub bounded : (c : ℕ) → (1 ≤ length (encode c)) × (length (encode c) ≤ 4)
 bounded c = let bounds = len_utf8_bounds c in let same = length-encode c in (omega arith, omega arith)
 
 shorter_by : (c m : ℕ) (cs : List ℕ) → 0 < m → m < length (encode c) → encodes cs ≡ take m (encode c) → ⊥
 shorter_by c m [] p q e = let count : length (take m (encode c)) ≡ m = length-take-le m (encode c) (omega arith) in let none = ap length e in omega arith
 shorter_by c m (d ∷ ds) p q e =
     let front : encode d ++ (encodes ds ++ drop m (encode c)) ≡ encode c ++ [] =
-      sym (append_assoc (encode d) (encodes ds) (drop m (encode c))) ∙ ap (λ t. t ++ drop m (encode c)) e ∙ take-append-drop m (encode c) ∙ sym (append-nil (encode c)) in
+    sym (append_assoc (encode d) (encodes ds) (drop m (encode c))) ∙ ap (λ t. t ++ drop m (encode c)) e ∙ take-append-drop m (encode c) ∙ sym (append-nil (encode c)) in
     let same : d ≡ c = (encode_same d c (encodes ds ++ drop m (encode c)) [] front).0 in
     let counts : length (encode d) ≡ length (encode c) = ap (λ x. length (encode x)) same in
     let count : length (take m (encode c)) ≡ m = length-take-le m (encode c) (omega arith) in
@@ -113,8 +112,8 @@ shorter_by c m (d ∷ ds) p q e =
 shorter_front : (c m : ℕ) (r : List ℕ) → 0 < m → m < length (encode c) → is_utf8 (take m (encode c ++ r)) ≡ false
 shorter_front c m r p q = elim (tested (is_utf8 (take m (encode c ++ r)))) [
   | inl passed ↦
-    let text = IsUtf8-from_is_utf8 (take m (encode c ++ r)) passed in
-    absurd (shorter_by c m text.0 p q (text.1.1 ∙ take-append-le m (encode c) r (omega arith)))
+      let text = IsUtf8-from_is_utf8 (take m (encode c ++ r)) passed in
+      absurd (shorter_by c m text.0 p q (text.1.1 ∙ take-append-le m (encode c) r (omega arith)))
   | inr not_passed ↦ not_passed
 ]
 
@@ -128,9 +127,9 @@ char_len-at : (c : ℕ) (s r : List ℕ) → scalar c ≡ true → s ≡ encode 
 char_len-at c [] r h e = let counts = ap length e in absurd (omega (arith, length-append (encode c) r, bounded c))
 char_len-at c (b ∷ s) r h e =
     let passes : is_utf8 (take (length (encode c)) (b ∷ s)) ≡ true =
-      ap (λ t. is_utf8 (take (length (encode c)) t)) e ∙ ap is_utf8 (take_at (encode c) r (length (encode c)) refl) ∙ is_utf8-from_IsUtf8 (encode c) (whole_char c h) in
+    ap (λ t. is_utf8 (take (length (encode c)) t)) e ∙ ap is_utf8 (take_at (encode c) r (length (encode c)) refl) ∙ is_utf8-from_IsUtf8 (encode c) (whole_char c h) in
     least_is (front_is_text (b ∷ s)) (char_len (b ∷ s)) (length (encode c)) (shortest b s) (bounded c).0 (bounded c).1 passes
-      (λ m p q. ap (λ t. is_utf8 (take m t)) e ∙ shorter_front c m r p q)
+    (λ m p q. ap (λ t. is_utf8 (take m t)) e ∙ shorter_front c m r p q)
 
 -- a character lies at the front of what begins with it, and has its bytes
 pub char_len-encode : (c : ℕ) (r : List ℕ) → scalar c ≡ true → char_len (encode c ++ r) ≡ length (encode c)

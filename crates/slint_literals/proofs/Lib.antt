@@ -2,5 +2,6 @@ pub mod Choices
 pub mod Hex
 pub mod Chars
 pub mod Looks
+pub mod PrintedTexts
 pub mod Runs
 pub mod Worths

@@ -1,6 +1,6 @@
 -- What lies at the front of the inside of a string, and how far it goes.
 use Rattle.std.proofs.Common.{◌≡◌, ℕ, zero, suc, ◌+◌, ◌<◌, ◌≤◌, Bool, true, false, cond, eqb, ltb, ◌||◌, inl, inr, Option, Some, None, List, [], ◌∷◌, ◌++◌, length, take, drop, get_or, refl, sym, ap, ◌∙◌, subst, arith}
-use Rattle.std.proofs.Math.Utf8.{scalar, encode}
+use Rattle.std.proofs.Math.Utf8.{encode}
 use Rattle.std.specs.Char.{is_ascii_hexdigit}
 use Rattle.std.specs.List.{prefix_len}
 use Rattle.std.specs.Str.{IsUtf8}
@@ -11,7 +11,6 @@ use Rattle.slint_literals.specs.declared.strings.Look.{Look}
 use Rattle.slint_literals.specs.declared.strings.Look.TheVariants.{Plain, Escape, Quote, Hole, BadEscape, NotUtf8, End}
 use Rattle.slint_literals.specs.Characters.{char_len}
 use Rattle.slint_literals.specs.Strings.{scalar_of, braced_char, unicode_escape, unicode_look, escape_look, plain_look, text_look, behind_look, text_step, Takes}
-use Rattle.slint_literals.proofs.Choices.{chosen}
 use Rattle.slint_literals.proofs.Chars.{char_len_le, char_utf8}
 
 -- a look that goes no farther than so many bytes, and that takes some where it takes a character

@@ -1,5 +1,5 @@
 -- Walks over the insides of strings.
-use Rattle.std.proofs.Common.{◌≡◌, ℕ, zero, suc, ◌+◌, ◌<◌, ◌≤◌, Option, Some, None, List, [], ◌++◌, length, take, drop, refl, sym, ap, ◌∙◌, subst, arith}
+use Rattle.std.proofs.Common.{◌≡◌, ℕ, zero, suc, ◌+◌, ◌<◌, ◌≤◌, Option, Some, None, List, [], length, drop, refl, sym, ap, ◌∙◌, subst, arith}
 use Rattle.std.proofs.lemmas.List.{drop-drop, length-drop}
 use Rattle.slint_literals.specs.Steps.{Steps, still, onward}
 use Rattle.slint_literals.specs.Strings.{text_step, Takes, IsRun}
@@ -37,8 +37,8 @@ read_more bytes text after s at zero e r w p t = absurd (omega arith)
 read_more bytes text after s at (suc n) e r w p t = record {
   within = omega (arith, length-drop at bytes, r.within, ap length e);
   spelled =
-    subst (λ x. Steps text_step ([], bytes) (after, x)) (ap (drop (suc n)) e ∙ drop-drop (suc n) at bytes)
-    (steps_snoc text_step ([], bytes) (text, s) (after, drop (suc n) s) (subst (λ x. Steps text_step ([], bytes) (text, x)) (sym e) r.spelled) t);
+      subst (λ x. Steps text_step ([], bytes) (after, x)) (ap (drop (suc n)) e ∙ drop-drop (suc n) at bytes)
+      (steps_snoc text_step ([], bytes) (text, s) (after, drop (suc n) s) (subst (λ x. Steps text_step ([], bytes) (text, x)) (sym e) r.spelled) t);
 }
 
 pub read_run : (bytes text same after s : List ℕ) (at : ℕ) → s ≡ drop at bytes → Read bytes text at → Takes text s after 0 → same ≡ after → IsRun bytes same (drop at bytes)

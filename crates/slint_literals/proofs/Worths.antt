@@ -1,10 +1,10 @@
 -- What numbers are worth: sizes, and the parts of a number's text.
-use Rattle.std.proofs.Common.{◌≡◌, ℕ, zero, suc, ◌+◌, ◌*◌, ◌^◌, ◌-◌, ◌<◌, ◌≤◌, Bool, true, false, cond, eqb, ltb, ◌&&◌, ◌||◌, Option, Some, None, List, [], ◌∷◌, ◌++◌, length, take, drop, get_or, refl, sym, ap, ◌∙◌, subst, arith, lit<, add-one}
+use Rattle.std.proofs.Common.{◌≡◌, ℕ, zero, suc, ◌+◌, ◌*◌, ◌^◌, ◌-◌, ◌<◌, ◌≤◌, Bool, true, false, cond, eqb, ltb, ◌&&◌, Option, Some, None, List, [], ◌∷◌, ◌++◌, length, take, drop, get_or, refl, sym, ap, ◌∙◌, subst, arith, lit<, add-one}
 use Rattle.std.specs.Prelude.{codes}
-use Rattle.std.specs.Char.{is_ascii_digit, is_ascii_alphabetic, digit_value}
-use Rattle.std.specs.List.{list_all, prefix_len, take_while}
+use Rattle.std.specs.Char.{is_ascii_digit, digit_value}
+use Rattle.std.specs.List.{list_all, take_while}
 use Rattle.std.specs.Str.{bytes_eq}
-use Rattle.std.specs.Str.Parse.{AllDigits, digits_value, digits_value_after}
+use Rattle.std.specs.Str.Parse.{digits_value, digits_value_after}
 use Rattle.std.proofs.Math.Nat.{pow-le-pow_right, pow-suc, mul-le-mul_left, one-le-pow}
 use Rattle.std.proofs.lemmas.Bool.{le-ltb}
 use Rattle.std.proofs.lemmas.Bool.Decides.{nat_tests}
@@ -177,7 +177,7 @@ number_is text whole behind fraction unit n value w b f count u some good v =
     let digits : some_digits (whole_of text) ≡ true = some_by (whole_of text) (ap (λ ds. eqb (length ds) 0) (sym w) ∙ some) (all_front is_ascii_digit text) in
     let good_unit : is_unit (unit_of text) ≡ true = ap is_unit (sym unit_same) ∙ good in
     let parts : are_parts (whole_of text) (fraction_of text) (unit_of text) ≡ true =
-      both_true (some_digits (whole_of text)) (list_all is_ascii_digit (fraction_of text) && is_unit (unit_of text)) digits
-      (both_true (list_all is_ascii_digit (fraction_of text)) (is_unit (unit_of text)) (behind_digits (behind_whole text)) good_unit) in
+    both_true (some_digits (whole_of text)) (list_all is_ascii_digit (fraction_of text) && is_unit (unit_of text)) digits
+    (both_true (list_all is_ascii_digit (fraction_of text)) (is_unit (unit_of text)) (behind_digits (behind_whole text)) good_unit) in
     v ∙ ap (λ x. worth x fraction unit) w ∙ ap (λ x. worth (whole_of text) x unit) fraction_same ∙ ap (λ x. worth (whole_of text) (fraction_of text) x) unit_same
     ∙ sym (ap (λ t. cond t (worth (whole_of text) (fraction_of text) (unit_of text)) None) parts)

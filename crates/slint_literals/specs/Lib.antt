@@ -1,5 +1,7 @@
+pub use Rattle.slint_base.specs.Numbers
 pub mod Characters
 pub mod Colours
 pub mod Numbers
+pub mod Printed
 pub mod Steps
 pub mod Strings

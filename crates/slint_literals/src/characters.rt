@@ -6,7 +6,11 @@ ghost use Rattle.slint_literals.specs.Characters.{char_len, front_char};
 fn front(bytes: &[u8], count: usize) -> &[u8]
     ensures { result.now ≡ take count bytes.now }
 {
-    if bytes.len() <= count { bytes } else { &bytes[..count] }
+    if bytes.len() <= count {
+        bytes
+    } else {
+        &bytes[..count]
+    }
 }
 
 /// Whether the bytes are UTF-8.

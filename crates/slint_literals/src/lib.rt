@@ -6,9 +6,11 @@ mod colours;
 mod hexadecimal;
 mod measures;
 mod numbers;
+mod printing;
 mod strings;
 
 pub use characters::{char_len, front_char};
 pub use colours::read_colour;
 pub use numbers::Number;
+pub use printing::{print_string, print_text, printed_text_reads};
 pub use strings::{Look, Run, text_look, text_run};

@@ -58,5 +58,9 @@ pub(crate) fn measure_of(unit: &[u8]) -> Option<Measure>
     } else {
         return None;
     };
-    Some(Measure { quantity, factor, divisor })
+    Some(Measure {
+        quantity,
+        factor,
+        divisor,
+    })
 }

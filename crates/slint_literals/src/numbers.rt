@@ -61,7 +61,11 @@ fn behind_point(text: &[u8]) -> &[u8]
 fn pointed_length(fraction: &[u8]) -> usize
     ensures { result ≡ length (pointed fraction.now) }
 {
-    if fraction.is_empty() { 0 } else { fraction.len() + 1 }
+    if fraction.is_empty() {
+        0
+    } else {
+        fraction.len() + 1
+    }
 }
 
 /// Whether all are ASCII letters.

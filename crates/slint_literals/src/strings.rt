@@ -90,7 +90,11 @@ fn escape_look(bytes: &[u8]) -> Look
 fn plain_look(length: usize) -> Look
     ensures { result ≡ plain_look length }
 {
-    if length == 0 { Look::NotUtf8 } else { Look::Plain(length) }
+    if length == 0 {
+        Look::NotUtf8
+    } else {
+        Look::Plain(length)
+    }
 }
 
 /// What lies at the front of the inside of a string.

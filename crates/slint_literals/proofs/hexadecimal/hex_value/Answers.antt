@@ -1,4 +1,3 @@
-
 use Rattle.slint_literals.proofs.Hex.{ascii_hex, hex_parsed}
 use Rattle.slint_literals.proofs.hexadecimal.hex_value.Goals as goal
 

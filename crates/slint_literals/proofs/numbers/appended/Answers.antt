@@ -1,5 +1,5 @@
 use Rattle.std.proofs.Common.{arith, refl}
-use Rattle.slint_literals.proofs.Worths.{wrote_none, wrote_more, wrote_fits, wrote_all}
+use Rattle.slint_literals.proofs.Worths.{wrote_none, wrote_more, wrote_fits}
 use Rattle.slint_literals.proofs.numbers.appended.Goals as goal
 
 pub loop-digit-init : goal.loop-digit-init

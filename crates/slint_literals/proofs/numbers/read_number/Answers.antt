@@ -13,4 +13,4 @@ worth-requires-clause-fraction c = rw c.behind_point-fraction.ensures (behind_di
 pub returns : goal.returns
 returns c =
     number_is c.args.text.now c.split_digits.result.0.now c.split_digits.result.1.now c.behind_point-fraction.result.now c.split_at.result.1.now c.pointed_length.result c.worth.result
-      c.split_digits.ensures.digits c.split_digits.ensures.behind c.behind_point-fraction.ensures c.pointed_length.ensures c.split_at.ensures.back (sym c.if-is_empty.ensures) (sym c.if-not-is_unit.ensures) c.worth.ensures
+    c.split_digits.ensures.digits c.split_digits.ensures.behind c.behind_point-fraction.ensures c.pointed_length.ensures c.split_at.ensures.back (sym c.if-is_empty.ensures) (sym c.if-not-is_unit.ensures) c.worth.ensures

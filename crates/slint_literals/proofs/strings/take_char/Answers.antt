@@ -1,6 +1,6 @@
 use Rattle.std.proofs.Common.{sym}
 use Rattle.std.proofs.lemmas.List.{length-take-le}
-use Rattle.slint_literals.proofs.Looks.{plain_fits, escape_fits, plain_utf8, escape_takes}
+use Rattle.slint_literals.proofs.Looks.{plain_fits, plain_utf8, escape_takes}
 use Rattle.slint_literals.proofs.strings.take_char.Goals as goal
 
 pub slice_bounds-text_of-end : goal.slice_bounds-text_of-end

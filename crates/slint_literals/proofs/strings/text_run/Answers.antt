@@ -1,6 +1,6 @@
 use Rattle.std.proofs.Common.{arith}
 use Rattle.std.proofs.lemmas.List.{take_rest}
-use Rattle.slint_literals.proofs.Runs.{read_none, read_more, read_run}
+use Rattle.slint_literals.proofs.Runs.{read_none, read_more}
 use Rattle.slint_literals.proofs.strings.text_run.Goals as goal
 
 pub loop-text-init : goal.loop-text-init
