@@ -1,1 +1,4 @@
-
+pub mod Lexing
+pub mod Names
+pub mod Pieces
+pub mod Symbols

@@ -10,21 +10,11 @@ use Rattle.std.proofs.lemmas.List.{get_or_past}
 use Rattle.slint_literals.specs.declared.strings.Look.{Look}
 use Rattle.slint_literals.specs.declared.strings.Look.TheVariants.{Plain, Escape, Quote, Hole, BadEscape, NotUtf8, End}
 use Rattle.slint_literals.specs.Characters.{char_len}
-use Rattle.slint_literals.specs.Strings.{scalar_of, braced_char, unicode_escape, unicode_look, escape_look, plain_look, text_look, behind_look, text_step, Takes}
+use Rattle.slint_literals.specs.Strings.{IsWithin, scalar_of, braced_char, unicode_escape, unicode_look, escape_look, plain_look, text_look, behind_look, text_step, Takes}
 use Rattle.slint_literals.proofs.Chars.{char_len_le, char_utf8}
 
--- a look that goes no farther than so many bytes, and that takes some where it takes a character
-abbrev Within : Look → ℕ → Type 0
-Within (Plain n) m = (0 < n) × (n ≤ m)
-Within (Escape c n) m = (0 < n) × (n ≤ m)
-Within Quote m = Unit {0}
-Within Hole m = Unit {0}
-Within (BadEscape n) m = Unit {0}
-Within NotUtf8 m = Unit {0}
-Within End m = Unit {0}
-
 -- a choice is within where both its ways are
-either_within : (t : Bool) (x y : Look) (m : ℕ) → (t ≡ true → Within x m) → Within y m → Within (cond t x y) m
+either_within : (t : Bool) (x y : Look) (m : ℕ) → (t ≡ true → IsWithin x m) → IsWithin y m → IsWithin (cond t x y) m
 either_within true x y m p q = p refl
 either_within false x y m p q = q
 
@@ -43,20 +33,20 @@ braced_within : (count : ℕ) (s : List ℕ) (c : ℕ) (few : Bool) → cond few
 braced_within count s c true h = cc
 braced_within count s c false h = code_within 0 count (digits_value 16 (take count s)) s c (eqb (get_or s count 0) 125) (brace_within s count) h
 
-unicode_by : (count : ℕ) (s : List ℕ) (found : Option ℕ) → braced_char count s ≡ found → Within (unicode_escape count found) (length s + 3)
-unicode_by count s None h = tt
+unicode_by : (count : ℕ) (s : List ℕ) (found : Option ℕ) → braced_char count s ≡ found → IsWithin (unicode_escape count found) (length s + 3)
+unicode_by count s None h = (omega arith, omega arith)
 unicode_by count s (Some c) h = let less = braced_within count s c (eqb count 0 || ltb 6 count) h in (omega arith, omega arith)
 
-unicode_within : (s : List ℕ) → Within (unicode_look s) (length s + 2)
-unicode_within [] = tt
+unicode_within : (s : List ℕ) → IsWithin (unicode_look s) (length s + 2)
+unicode_within [] = (omega arith, omega arith)
 unicode_within (b ∷ s) =
     let count = prefix_len is_ascii_hexdigit s in
-    let inside : Within (unicode_escape count (braced_char count s)) (length s + 3) = unicode_by count s (braced_char count s) refl in
+    let inside : IsWithin (unicode_escape count (braced_char count s)) (length s + 3) = unicode_by count s (braced_char count s) refl in
     let more : length s + 3 ≡ length (b ∷ s) + 2 = omega arith in
-    either_within (eqb b 123) _ (BadEscape 2) (length (b ∷ s) + 2) (λ _. subst (λ m. Within (unicode_escape count (braced_char count s)) m) more inside) tt
+    either_within (eqb b 123) _ (BadEscape 2) (length (b ∷ s) + 2) (λ _. subst (λ m. IsWithin (unicode_escape count (braced_char count s)) m) more inside) (omega arith, omega arith)
 
-escape_within : (s : List ℕ) → Within (escape_look s) (length s + 1)
-escape_within [] = tt
+pub escape_within : (s : List ℕ) → IsWithin (escape_look s) (length s + 1)
+escape_within [] = (omega arith, omega arith)
 escape_within (c ∷ s) =
     let room : 2 ≤ length (c ∷ s) + 1 = omega arith in
     let two : (0 < 2) × (2 ≤ length (c ∷ s) + 1) = (omega arith, room) in
@@ -64,26 +54,28 @@ escape_within (c ∷ s) =
     either_within (eqb c 34) (Escape 34 2) _ (length (c ∷ s) + 1) (λ _. two)
     (either_within (eqb c 92) (Escape 92 2) _ (length (c ∷ s) + 1) (λ _. two)
     (either_within (eqb c 110) (Escape 10 2) _ (length (c ∷ s) + 1) (λ _. two)
-    (either_within (eqb c 123) Hole _ (length (c ∷ s) + 1) (λ _. tt)
-    (either_within (eqb c 117) (unicode_look s) (BadEscape (1 + char_len (c ∷ s))) (length (c ∷ s) + 1) (λ _. subst (λ m. Within (unicode_look s) m) same (unicode_within s)) tt))))
+    (either_within (eqb c 123) Hole _ (length (c ∷ s) + 1) (λ _. room)
+    (either_within (eqb c 117) (unicode_look s) (BadEscape (1 + char_len (c ∷ s))) (length (c ∷ s) + 1) (λ _. subst (λ m. IsWithin (unicode_look s) m) same (unicode_within s))
+    (omega arith, omega (arith, char_len_le (c ∷ s)))))))
 
-plain_within : (n m : ℕ) → n ≤ m → Within (plain_look n) m
-plain_within zero m h = tt
-plain_within (suc n) m h = (omega arith, h)
+plain_within : (n m : ℕ) → 1 ≤ m → n ≤ m → IsWithin (plain_look n) m
+plain_within zero m p h = p
+plain_within (suc n) m p h = (omega arith, h)
 
 -- what lies at the front lies within the bytes
-pub look_within : (s : List ℕ) → Within (text_look s) (length s)
-look_within [] = tt
+pub look_within : (s : List ℕ) → IsWithin (text_look s) (length s)
+look_within [] = refl
 look_within (b ∷ s) =
     let same : length s + 1 ≡ length (b ∷ s) = omega arith in
-    either_within (eqb b 34) Quote _ (length (b ∷ s)) (λ _. tt)
-    (either_within (eqb b 92) (escape_look s) (plain_look (char_len (b ∷ s))) (length (b ∷ s)) (λ _. subst (λ m. Within (escape_look s) m) same (escape_within s)) (plain_within (char_len (b ∷ s)) (length (b ∷ s)) (char_len_le (b ∷ s))))
+    let one : 1 ≤ length (b ∷ s) = omega arith in
+    either_within (eqb b 34) Quote _ (length (b ∷ s)) (λ _. one)
+    (either_within (eqb b 92) (escape_look s) (plain_look (char_len (b ∷ s))) (length (b ∷ s)) (λ _. subst (λ m. IsWithin (escape_look s) m) same (escape_within s)) (plain_within (char_len (b ∷ s)) (length (b ∷ s)) one (char_len_le (b ∷ s))))
 
 pub plain_fits : (s : List ℕ) (n : ℕ) → text_look s ≡ Plain n → (0 < n) × (n ≤ length s)
-plain_fits s n h = subst (λ l. Within l (length s)) h (look_within s)
+plain_fits s n h = subst (λ l. IsWithin l (length s)) h (look_within s)
 
 pub escape_fits : (s : List ℕ) (c n : ℕ) → text_look s ≡ Escape c n → (0 < n) × (n ≤ length s)
-escape_fits s c n h = subst (λ l. Within l (length s)) h (look_within s)
+escape_fits s c n h = subst (λ l. IsWithin l (length s)) h (look_within s)
 
 -- a look is at a character only where one lies
 abbrev IsChar : Look → List ℕ → Type 0
@@ -141,3 +133,6 @@ escape_takes text s after c n h e = takes_by text s after n (escape_fits s c n h
 -- what a character takes
 pub plain_takes : (text s after : List ℕ) (n : ℕ) → text_look s ≡ Plain n → after ≡ text ++ take n s → Takes text s after n
 plain_takes text s after n h e = takes_by text s after n (plain_fits s n h).0 (ap (λ l. behind_look l text s) h ∙ ap (λ t. Some (t, drop n s)) (sym e))
+
+pub at_look : (look seen : Look) (m n : ℕ) → look ≡ seen → m ≡ n → IsWithin seen m → IsWithin look n
+at_look look seen m n e f h = subst (λ x. IsWithin x n) (sym e) (subst (IsWithin seen) f h)

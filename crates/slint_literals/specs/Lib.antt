@@ -1,4 +1,3 @@
-pub use Rattle.slint_base.specs.Numbers
 pub mod Characters
 pub mod Colours
 pub mod Numbers

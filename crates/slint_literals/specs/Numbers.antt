@@ -1,5 +1,5 @@
 -- How numbers are written, and what they are worth.
-use Rattle.std.specs.Prelude.{ℕ, ◌+◌, ◌*◌, ◌^◌, ℤ, pos, Bool, false, List, [], ◌∷◌, ◌++◌, length, drop, ◌==◌, ◌&&◌, ◌||◌, nat_lt, nat_le, if◌then◌else◌, codes, Option, Some, None, option_and_then}
+use Rattle.std.specs.Prelude.{◌≡◌, ℕ, ◌≤◌, true, take, ◌+◌, ◌*◌, ◌^◌, ℤ, pos, Bool, false, List, [], ◌∷◌, ◌++◌, length, drop, ◌==◌, ◌&&◌, ◌||◌, nat_lt, nat_le, if◌then◌else◌, codes, Option, Some, None, option_and_then}
 use Rattle.std.specs.Char.{is_ascii_digit, is_ascii_alphabetic}
 use Rattle.std.specs.List.{list_all, prefix_len, take_while}
 use Rattle.std.specs.Str.{bytes_eq}
@@ -115,3 +115,23 @@ worth whole fraction unit = if nat_lt most_digits (length whole + length fractio
 -- what a number's text is worth; nothing where it is no number's text, has over 30 digits or an unknown unit, or is too great for its type
 abbrev pub number_value : List ℕ → Option Number
 number_value text = if is_number text then worth (whole_of text) (fraction_of text) (unit_of text) else None
+
+-- how many bytes of a unit lie at the front
+abbrev pub unit_length : List ℕ → ℕ
+unit_length [] = 0
+unit_length (b ∷ s) = if b == 37 then 1 else prefix_len is_ascii_alphabetic (b ∷ s)
+
+-- how many bytes of a number lie at the front: digits, a point before a digit and digits, and a unit
+abbrev pub number_length : List ℕ → ℕ
+number_length text = length (whole_of text) + (length (pointed (fraction_of text)) + unit_length (unit_of text))
+
+-- so many bytes at the front are a number's text, and no longer front is one
+pub record IsLongestNumber (text : List ℕ) (count : ℕ) : Type 0 where
+  pub within : count ≤ length text
+  pub number : is_number (take count text) ≡ true
+  pub longest : (more : ℕ) → more ≤ length text → is_number (take more text) ≡ true → more ≤ count
+
+-- the text begins with a digit
+abbrev pub starts_with_digit : List ℕ → Bool
+starts_with_digit [] = false
+starts_with_digit (b ∷ s) = is_ascii_digit b

@@ -1,5 +1,5 @@
 -- The insides of strings.
-use Rattle.std.specs.Prelude.{◌≡◌, ℕ, zero, suc, ◌+◌, List, [], ◌∷◌, ◌++◌, take, drop, ◌==◌, ◌||◌, nat_lt, if◌then◌else◌, Option, Some, None, slice_index, encode_utf8}
+use Rattle.std.specs.Prelude.{◌≡◌, ℕ, zero, suc, ◌+◌, ◌<◌, ◌≤◌, length, List, [], ◌∷◌, ◌++◌, take, drop, ◌==◌, ◌||◌, nat_lt, if◌then◌else◌, Option, Some, None, slice_index, encode_utf8}
 use Rattle.std.specs.Char.{is_ascii_hexdigit}
 use Rattle.std.specs.List.{prefix_len}
 use Rattle.std.specs.Str.Parse.{digits_value}
@@ -47,6 +47,16 @@ plain_look (suc n) = Plain (suc n)
 abbrev pub text_look : List ℕ → Look
 text_look [] = End
 text_look (b ∷ s) = if b == 34 then Quote else if b == 92 then escape_look s else plain_look (char_len (b ∷ s))
+
+-- what is seen lies within so many bytes, and takes some
+abbrev pub IsWithin : Look → ℕ → Type 0
+IsWithin (Plain n) m = (0 < n) × (n ≤ m)
+IsWithin (Escape c n) m = (0 < n) × (n ≤ m)
+IsWithin Quote m = 1 ≤ m
+IsWithin Hole m = 2 ≤ m
+IsWithin (BadEscape n) m = (0 < n) × (n ≤ m)
+IsWithin NotUtf8 m = 1 ≤ m
+IsWithin End m = m ≡ 0
 
 -- a text so far and what is left, behind one more character or escape
 abbrev pub behind_look : Look → List ℕ → List ℕ → Option (List ℕ × List ℕ)

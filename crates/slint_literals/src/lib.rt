@@ -11,6 +11,6 @@ mod strings;
 
 pub use characters::{char_len, front_char};
 pub use colours::read_colour;
-pub use numbers::Number;
+pub use numbers::{Number, number_length, numbers_read, read_number};
 pub use printing::{print_string, print_text, printed_text_reads};
 pub use strings::{Look, Run, text_look, text_run};

@@ -1,8 +1,8 @@
-ghost use Rattle.std.specs.Prelude.{◌≡◌, ◌+◌, ◌*◌, ◌^◌, ◌<◌, ◌≤◌, ◌++◌, length, drop, IsTrue};
+ghost use Rattle.std.specs.Prelude.{ℕ, List, true, ◌≡◌, ◌+◌, ◌*◌, ◌^◌, ◌<◌, ◌≤◌, ◌++◌, length, drop, IsTrue};
 ghost use Rattle.std.specs.Char.{is_ascii_digit, is_ascii_alphabetic};
 ghost use Rattle.std.specs.List.{list_all, prefix_len, take_while};
 ghost use Rattle.std.specs.Str.Parse.{digits_value, digits_value_after};
-ghost use Rattle.slint_literals.specs.Numbers.{pointed, behind_point, number_in, within_type, measured, plain_number, digits_worth, is_unit, are_parts, whole_of, fraction_of, unit_of, worth, number_value};
+ghost use Rattle.slint_literals.specs.Numbers.{numeral, unit_length, starts_with_digit, IsLongestNumber, pointed, behind_point, number_in, within_type, measured, plain_number, digits_worth, is_unit, are_parts, whole_of, fraction_of, unit_of, worth, number_value};
 
 use crate::measures::{Measure, Quantity, measure_of};
 use slint_base::LIM;
@@ -184,3 +184,37 @@ pub fn read_number(text: &[u8]) -> Option<Number>
     }
     worth(whole, fraction, unit)
 }
+
+/// How many bytes of a unit lie at the front.
+fn unit_length(text: &[u8]) -> usize
+    ensures { result ≡ unit_length text.now }
+{
+    match text.first() {
+        Some(b'%') => 1,
+        _ => letters_length(text),
+    }
+}
+
+/// How many ASCII letters lie at the front.
+fn letters_length(text: &[u8]) -> usize
+    ensures { result ≡ prefix_len is_ascii_alphabetic text.now }
+{
+    text.iter().take_while(|b| b.is_ascii_alphabetic()).count()
+}
+
+/// How many bytes the longest number has that lies at the front of bytes that begin with a digit.
+pub fn number_length(text: &[u8]) -> usize
+    requires { IsTrue (starts_with_digit text.now) }
+    ensures { IsLongestNumber text.now result }
+{
+    let (whole, behind) = split_digits(text);
+    let point = pointed_length(behind_point(behind));
+    let unit = behind.split_at(point).1;
+    whole.len() + point + unit_length(unit)
+}
+
+/// A law, which does nothing when it is called: digits, digits behind a point where there are some, and a unit make a number's text,
+/// and that is worth what they are.
+pub fn numbers_read()
+    ensures { (whole fraction unit : List ℕ) → are_parts whole fraction unit ≡ true → number_value (numeral whole fraction unit) ≡ worth whole fraction unit }
+{}

@@ -2,7 +2,7 @@ ghost use Rattle.std.specs.Prelude.{◌≡◌, ◌<◌, ◌≤◌, ℕ, List, le
 ghost use Rattle.std.specs.Str.Parse.{digits_value};
 ghost use Rattle.std.specs.Char.{is_ascii_hexdigit};
 ghost use Rattle.std.specs.List.{prefix_len};
-ghost use Rattle.slint_literals.specs.Strings.{braced_char, unicode_look, escape_look, plain_look, text_look, Takes, IsRun};
+ghost use Rattle.slint_literals.specs.Strings.{braced_char, unicode_look, escape_look, plain_look, text_look, IsWithin, Takes, IsRun};
 
 use crate::characters::{char_len, text_of};
 use crate::hexadecimal::hex_value;
@@ -99,7 +99,8 @@ fn plain_look(length: usize) -> Look
 
 /// What lies at the front of the inside of a string.
 pub fn text_look(bytes: &[u8]) -> Look
-    ensures { result ≡ text_look bytes.now }
+    ensures value { result ≡ text_look bytes.now }
+    ensures within { IsWithin result (length bytes.now) }
 {
     let Some((first, behind)) = bytes.split_first() else {
         return Look::End;
