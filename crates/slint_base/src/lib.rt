@@ -11,7 +11,7 @@ mod texts;
 pub use endings::{End, Memory};
 pub use faults::{Fault, Span};
 pub use names::Name;
-pub use numbers::{LIM, int_add, int_mul, int_sub};
+pub use numbers::{LIM, int_add, int_mul, int_sub, sat_add, sat_div, sat_mul, sat_sub};
 pub use rules::Rule;
 pub use texts::Text;
 
