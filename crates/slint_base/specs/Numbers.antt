@@ -1,5 +1,6 @@
 -- The numbers of the language's `int`, and of its types of whole units.
-use Rattle.std.specs.Prelude.{ℕ, zero, suc, ℤ, pos, negsuc, neg_ℤ, min, ◌+◌, ◌*◌, ◌/◌}
+use Rattle.std.specs.Prelude.{ℕ, zero, suc, ℤ, pos, negsuc, neg_ℤ, min, ◌≤◌, ◌+◌, ◌*◌, ◌/◌}
+use Rattle.std.specs.Int.{abs_diff}
 
 -- the greatest int
 abbrev pub greatest_int : ℕ
@@ -39,3 +40,8 @@ abbrev pub near : ℤ → ℤ → ℤ
 near n (pos zero) = greatest_alike n
 near n (pos (suc d)) = near_positive n (suc d)
 near n (negsuc d) = near_positive (neg_ℤ n) (suc d)
+
+-- q times d is as close to n as a multiple of d can be, and no greater multiple is as close
+pub record IsNearest (n d q : ℕ) : Type 0 where
+  pub closest : (r : ℕ) → abs_diff n (q * d) ≤ abs_diff n (r * d)
+  pub away : (r : ℕ) → abs_diff n (r * d) ≤ abs_diff n (q * d) → r ≤ q
