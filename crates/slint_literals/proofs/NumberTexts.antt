@@ -1,13 +1,13 @@
 -- The texts of numbers: their parts, and the longest at the front of bytes.
-use Rattle.std.proofs.Common.{◌≡◌, ℕ, zero, suc, ◌+◌, ◌-◌, ◌<◌, ◌≤◌, Bool, true, false, cond, eqb, ◌&&◌, ◌||◌, ◌⊎◌, inl, inr, None, List, [], ◌∷◌, ◌++◌, length, take, drop, refl, sym, ap, ◌∙◌, subst, arith}
+use Rattle.std.proofs.Common.{◌≡◌, ℕ, ◌+◌, ◌<◌, ◌≤◌, Bool, true, false, cond, eqb, ◌&&◌, ◌⊎◌, inl, inr, None, List, [], ◌∷◌, ◌++◌, length, take, drop, refl, sym, ap, ◌∙◌, subst, arith}
 use Rattle.std.specs.Prelude.{codes}
 use Rattle.std.specs.Char.{is_ascii_digit, is_ascii_alphabetic}
 use Rattle.std.specs.List.{list_all, prefix_len, take_while}
 use Rattle.std.specs.Str.{bytes_eq}
 use Rattle.std.proofs.Math.Seq.{take-append-add}
-use Rattle.std.proofs.lemmas.Bool.{or_cases, ne_eqb, eqb-true, or_right}
+use Rattle.std.proofs.lemmas.Bool.{or_cases, eqb-true, or_right}
 use Rattle.std.proofs.lemmas.Bool.Decides.{nat_tests}
-use Rattle.std.proofs.lemmas.List.{append_assoc, append-nil, length-append, length-take-le, take_at, drop_at, take-append-drop}
+use Rattle.std.proofs.lemmas.List.{append_assoc, length-append, length-take-le, take_at, drop_at, take-append-drop}
 use Rattle.std.proofs.lemmas.List.Folds.{length-prefix_len}
 use Rattle.std.proofs.lemmas.List.Sums.{prefix_len-le-length}
 use Rattle.std.proofs.lemmas.Slice.Eq.{bytes_eq-Decides}
@@ -146,9 +146,11 @@ numeral_is w f u h =
     let at = parts_are w f u h in
     let text = numeral w f u in
     let good : is_number text ≡ true =
-      ap (λ x. are_parts x (fraction_of text) (unit_of text)) at.whole ∙ ap (λ x. are_parts w x (unit_of text)) at.fraction ∙ ap (are_parts w f) at.unit ∙ h in
-    (good, ap (λ t. cond t (worth (whole_of text) (fraction_of text) (unit_of text)) None) good
-    ∙ ap (λ x. worth x (fraction_of text) (unit_of text)) at.whole ∙ ap (λ x. worth w x (unit_of text)) at.fraction ∙ ap (worth w f) at.unit)
+    ap (λ x. are_parts x (fraction_of text) (unit_of text)) at.whole ∙ ap (λ x. are_parts w x (unit_of text)) at.fraction ∙ ap (are_parts w f) at.unit ∙ h in (
+      good,
+      ap (λ t. cond t (worth (whole_of text) (fraction_of text) (unit_of text)) None) good
+          ∙ ap (λ x. worth x (fraction_of text) (unit_of text)) at.whole ∙ ap (λ x. worth w x (unit_of text)) at.fraction ∙ ap (worth w f) at.unit,
+    )
 
 -- a text is made of its parts
 point_text : (b : ℕ) (cs ds : List ℕ) → b ≡ 46 → cs ≡ ds ++ drop (length ds) cs → b ∷ cs ≡ pointed ds ++ drop (length (pointed ds)) (b ∷ cs)
@@ -221,7 +223,7 @@ pointed_longer w q d ds h k =
     let behind : behind_whole text ≡ 46 ∷ ((d ∷ ds) ++ q) = drop_while-whole digit w (46 ∷ ((d ∷ ds) ++ q)) h refl in
     let fraction : fraction_of text ≡ take_while is_ascii_digit ((d ∷ ds) ++ q) = ap behind_point behind in
     let more : length (take_while is_ascii_digit ((d ∷ ds) ++ q)) ≡ length (d ∷ ds) + prefix_len is_ascii_digit q =
-      length-prefix_len is_ascii_digit ((d ∷ ds) ++ q) ∙ prefix_len-all is_ascii_digit (d ∷ ds) q k in
+    length-prefix_len is_ascii_digit ((d ∷ ds) ++ q) ∙ prefix_len-all is_ascii_digit (d ∷ ds) q k in
     let count = ap length whole in
     let points = pointed_more (take_while is_ascii_digit ((d ∷ ds) ++ q)) (omega arith) in
     let same : length (pointed (fraction_of text)) ≡ length (pointed (take_while is_ascii_digit ((d ∷ ds) ++ q))) = ap (λ x. length (pointed x)) fraction in

@@ -1,5 +1,5 @@
 -- The insides of strings.
-use Rattle.std.specs.Prelude.{◌≡◌, ℕ, zero, suc, ◌+◌, ◌<◌, ◌≤◌, length, List, [], ◌∷◌, ◌++◌, take, drop, ◌==◌, ◌||◌, nat_lt, if◌then◌else◌, Option, Some, None, slice_index, encode_utf8}
+use Rattle.std.specs.Prelude.{◌≡◌, ℕ, zero, suc, ◌+◌, ◌<◌, ◌≤◌, List, [], ◌∷◌, ◌++◌, take, drop, ◌==◌, ◌||◌, nat_lt, if◌then◌else◌, Option, Some, None, slice_index, encode_utf8}
 use Rattle.std.specs.Char.{is_ascii_hexdigit}
 use Rattle.std.specs.List.{prefix_len}
 use Rattle.std.specs.Str.Parse.{digits_value}
