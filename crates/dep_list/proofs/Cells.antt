@@ -1,5 +1,5 @@
 -- Two places are the same exactly where `same_ptr` says so.
-use Rattle.std.proofs.Common.{◌≡◌, Bool, true, false, ◌&&◌, ◌==◌, refl, sym, ap, ◌∙◌, subst, eqb→eq, T}
+use Rattle.std.proofs.Common.{◌≡◌, Bool, true, false, ◌&&◌, ◌==◌, refl, sym, subst, eqb→eq, T}
 use lib.Dec.{eqb_refl}
 use denote.RawPtr.{Ptr, block_ptr, null_ptr}
 use Rattle.dep_list.specs.Cells.{same_ptr}

@@ -1,6 +1,6 @@
 -- A pair is taken out: its node becomes the top of the spare ones, and its neighbours in both lists lead to each other.
-use Rattle.std.proofs.Common.{◌≡◌, ◌≢◌, ℕ, suc, ◌+◌, ◌-◌, ◌^◌, ◌<◌, Bool, true, false, cond, List, [], ◌∷◌, ◌++◌, length, get_or, Option, Some, None, refl, sym, ap, ◌∙◌, subst, append-nil, arith}
-use Rattle.std.specs.Prelude.{IsSome, slice_set}
+use Rattle.std.proofs.Common.{◌≡◌, ◌≢◌, ℕ, suc, ◌+◌, ◌-◌, ◌<◌, Bool, true, false, cond, List, [], ◌∷◌, ◌++◌, length, get_or, Option, Some, None, refl, sym, ap, ◌∙◌, subst, append-nil, arith}
+use Rattle.std.specs.Prelude.{IsSome}
 use Rattle.std.proofs.Math.ListN.{set, length-set}
 use denote.RawPtr.{Ptr}
 use Rattle.dep_list.specs.declared.node.Place.{Place}
@@ -9,12 +9,12 @@ use Rattle.dep_list.specs.declared.node.Node.{Node}
 use Rattle.dep_list.specs.declared.node.Ends.{Ends}
 use Rattle.dep_list.specs.declared.node.Side.{Side}
 use Rattle.dep_list.specs.declared.node.Side.TheVariants.{Reader, Point}
-use Rattle.dep_list.specs.Cells.{same_ptr, find, take_out, places, alter, without, pick, Absent, Apart}
-use Rattle.dep_list.specs.Lists.{place, key_of, other_of, link_of, with_link, next_to, prev_to, spare_node, pair_if, step_if, below_if, entries, row, frees, first_or, last_or, Chain, IsRow, Stack, State, ends_of, ends_at, no_ends, Held, alter_if, cut_ends, cut, next_set, prev_set}
-use Rattle.dep_list.proofs.Places.{Apart-push, Absent-left, Apart-before, Apart-behind, Absent-append, places-append, take_out-without, Absent-without_own, Apart-without, without-absent, pick-append, pick-without, Apart-pick, pick-hidden, pick-found, Cut, cut_at, without-cut, found-append_left}
+use Rattle.dep_list.specs.Cells.{same_ptr, find, take_out, places, without, Absent, Apart}
+use Rattle.dep_list.specs.Lists.{place, key_of, other_of, link_of, with_link, next_to, prev_to, spare_node, pair_if, step_if, below_if, entries, row, frees, first_or, last_or, IsRow, Stack, State, FoundIf, ends_of, ends_at, no_ends, Held, AllWithin, SameRoom, alter_if, cut_ends, cut}
+use Rattle.dep_list.proofs.Places.{Apart-push, places-append, take_out-without, Absent-without_own, Apart-without, without-absent, pick-append, pick-without, Apart-pick, pick-hidden, pick-found, picked, Cut, cut_at, without-cut}
 use Rattle.dep_list.proofs.Rows.{Step, on_link, AbsentIf, Disjoint, places-alter_if, alter_if-absent, cut_row, last_disjoint, first_disjoint, Disjoint-left, Disjoint-right, link_in_row, IsRow-cut, Stack-push, last_or-append}
-use Rattle.dep_list.proofs.Selections.{opposite, row-alter_if, row-alter_other, entries-alter_if, frees-next, frees-prev, step_some, rows_disjoint, row_frees_disjoint, FoundIf, last_found, first_found, found_in_row, found_alter_if}
-use Rattle.dep_list.proofs.EndsLemmas.{rows_set, AllWithin-without, length-push, length-middle}
+use Rattle.dep_list.proofs.Selections.{opposite, row-alter_if, row-alter_other, entries-alter_if, frees-next, frees-prev, step_none, step_some, rows_disjoint, row_frees_disjoint, last_found, first_found, found_in_row, found_alter_if}
+use Rattle.dep_list.proofs.EndsLemmas.{rows_set, AllWithin-without, length-push, length-middle, both_inside}
 
 -- the neighbours of a node lead to each other
 abbrev pub cut_cells : Side → Link → List (Ptr × Node) → List (Ptr × Node)
@@ -30,7 +30,7 @@ row-cut_other side k l cs = row-alter_other side k (prev_to l.prev) l.next (alte
 entries-cut_cells : (side : Side) (l : Link) (cs : List (Ptr × Node)) → entries (cut_cells side l cs) ≡ entries cs
 entries-cut_cells side l cs = entries-alter_if side (prev_to l.prev) l.next (alter_if (with_link side (next_to l.next)) l.prev cs) ∙ entries-alter_if side (next_to l.next) l.prev cs
 
-places-cut_cells : (side : Side) (l : Link) (cs : List (Ptr × Node)) → places (cut_cells side l cs) ≡ places cs
+pub places-cut_cells : (side : Side) (l : Link) (cs : List (Ptr × Node)) → places (cut_cells side l cs) ≡ places cs
 places-cut_cells side l cs = places-alter_if (with_link side (prev_to l.prev)) l.next (alter_if (with_link side (next_to l.next)) l.prev cs) ∙ places-alter_if (with_link side (next_to l.next)) l.prev cs
 
 frees-cut_cells : (side : Side) (l : Link) (cs : List (Ptr × Node)) → AbsentIf l.prev (places (frees cs)) → AbsentIf l.next (places (frees cs)) → frees (cut_cells side l cs) ≡ frees cs
@@ -135,7 +135,7 @@ module _ (s : State) (K : Held s) (p : Ptr) (n : Node) (found : find s.cells p �
       row_other : (k : ℕ) → k ≢ k0 → cut_row (link_of side n) (row side k c1) ≡ row side k s.cells
       row_other k differ =
           let d = rows_disjoint side k0 k (λ same. differ (sym same)) c1 apart1 in
-          let hides : step_if side k n ≡ None = Rattle.dep_list.proofs.Selections.step_none side k n (λ same. differ (sym same)) in
+          let hides : step_if side k n ≡ None = step_none side k n (λ same. differ (sym same)) in
           cut_row-absent (link_of side n) (row side k c1) (prev_absent (places (row side k c1)) d) (next_absent (places (row side k c1)) d)
           ∙ row1 side k ∙ without-absent p (row side k s.cells) (pick-hidden (step_if side k) p s.cells n K.apart found hides)
 
@@ -179,6 +179,9 @@ module _ (s : State) (K : Held s) (p : Ptr) (n : Node) (found : find s.cells p �
     length3 : (side : Side) → length (ends_of side s3) ≡ length (ends_of side s)
     length3 side = ap length (ends3 side) ∙ length-set (ends_of side s) (key_of side n) (cut_ends (link_of side n) (ends_at side (key_of side n) s))
 
+    pub same_room : SameRoom s s3
+    same_room = let one = one_less in let k2 = K.count in record { readers = length3 Reader; points = length3 Point; total = omega arith }
+
     pub cut_kept : Held s3
     cut_kept =
         let one = one_less in let k1 = K.spare in let k2 = K.count in let k3 = K.small in
@@ -186,9 +189,9 @@ module _ (s : State) (K : Held s) (p : Ptr) (n : Node) (found : find s.cells p �
         record {
           apart = subst Apart (sym (places-cut_cells Point n.by_point (cut_cells Reader n.by_reader c1) ∙ places-cut_cells Reader n.by_reader c1)) apart1;
           rows = rows3;
-          within = subst (λ (es : List (Ptr × (ℕ × ℕ))). Rattle.dep_list.specs.Lists.AllWithin (length s3.readers) (length s3.points) es) (sym entries3)
-              (subst (λ (m : ℕ). Rattle.dep_list.specs.Lists.AllWithin m (length s3.points) (without p (entries s.cells))) (sym (length3 Reader))
-              (subst (λ (m : ℕ). Rattle.dep_list.specs.Lists.AllWithin (length s.readers) m (without p (entries s.cells))) (sym (length3 Point))
+          within = subst (λ (es : List (Ptr × (ℕ × ℕ))). AllWithin (length s3.readers) (length s3.points) es) (sym entries3)
+              (subst (λ (m : ℕ). AllWithin m (length s3.points) (without p (entries s.cells))) (sym (length3 Reader))
+              (subst (λ (m : ℕ). AllWithin (length s.readers) m (without p (entries s.cells))) (sym (length3 Point))
               (AllWithin-without (length s.readers) (length s.points) p (entries s.cells) K.within)));
           stack = subst (Stack None) (sym frees3) (subst (λ (t : Option Place). Stack None (frees s.cells ++ (p, t) ∷ [])) (sym K.top) (Stack-push None (frees s.cells) p K.stack));
           top = sym (ap (last_or None) frees3 ∙ last_or-append None (frees s.cells) ((p, s.top) ∷ []));
@@ -196,3 +199,38 @@ module _ (s : State) (K : Held s) (p : Ptr) (n : Node) (found : find s.cells p �
           count = let e : s.count - 1 ≡ length (without p (entries s.cells)) = omega arith in e ∙ sym (ap length entries3);
           small = omega arith;
         }
+
+-- ---- the pair's node
+
+linked_shows : (b : Bool) (x y : ℕ × ℕ) → cond b (Some x) None ≡ Some y → (b ≡ true) × (x ≡ y)
+linked_shows true x y e = (refl, let same : x ≡ y = cc in same)
+linked_shows false x y e = cc
+
+some_of : {A : Type 0} (o : Option A) → IsSome o → (x : A) × (o ≡ Some x)
+some_of None h = cc
+some_of (Some x) h = (x, refl)
+
+-- the node at which a pair stands, with the pair
+pub record IsPairAt (s : State) (p : Ptr) (n : Node) : Type 0 where
+  pub found : find s.cells p ≡ Some n
+  pub linked : n.linked ≡ true
+  pub entry : find (entries s.cells) p ≡ Some (n.reader, n.point)
+
+pub pair_at : (s : State) → Held s → (p : Ptr) → IsSome (find (entries s.cells) p) → (n : Node) × IsPairAt s p n
+pair_at s K p h =
+    let e = some_of (find (entries s.cells) p) h in let f = picked pair_if p s.cells e.0 K.apart e.1 in let l = linked_shows f.value.linked (f.value.reader, f.value.point) e.0 f.shows in
+    (f.value, record { found = f.found; linked = l.0; entry = e.1 ∙ ap Some (sym l.1) })
+
+pub pair_of : (s : State) → Held s → (p : Ptr) → IsSome (find (entries s.cells) p) → (n : Node) → find s.cells p ≡ Some n → IsPairAt s p n
+pair_of s K p h n f = let t = pair_at s K p h in let same : t.0 ≡ n = let e : Some t.0 ≡ Some n = sym t.1.found ∙ f in cc in subst (IsPairAt s p) same t.1
+
+AllWithin-found : (r q : ℕ) (p : Ptr) (es : List (Ptr × (ℕ × ℕ))) (x : ℕ × ℕ) → AllWithin r q es → find es p ≡ Some x → (x.0 < r) × (x.1 < q)
+AllWithin-found r q p [] x a f = cc
+AllWithin-found r q p (e ∷ es) x a f =
+    (elim (same_ptr e.0 p) as (λ b. same_ptr e.0 p ≡ b → cond b (Some e.1) (find es p) ≡ Some x → (x.0 < r) × (x.1 < q)) [
+      | true ↦ λ d g. let same : e.1 ≡ x = cc in subst (λ (y : ℕ × ℕ). (y.0 < r) × (y.1 < q)) same (a.0, a.1)
+      | false ↦ λ d g. AllWithin-found r q p es x a.2 g
+    ]) refl f
+
+pub inside_of : (s : State) → Held s → (p : Ptr) (n : Node) → IsPairAt s p n → (side : Side) → key_of side n < length (ends_of side s)
+inside_of s K p n t side = let w = AllWithin-found (length s.readers) (length s.points) p (entries s.cells) (n.reader, n.point) K.within t.entry in both_inside s n w.0 w.1 side

@@ -1,15 +1,13 @@
 -- What the walks of the owner of all nodes share: a cell is cut out, glued in, put last and seen. Assumes `Logic`.
-use Rattle.std.proofs.Common.{◌≡◌, Bool, true, false, cond, List, [], ◌∷◌, ◌++◌, Option, Some, None, refl, sym, ap, subst, lit<, arith}
+use Rattle.std.proofs.Common.{◌≡◌, Bool, true, false, cond, List, [], ◌∷◌, ◌++◌, Some, None, refl, sym, subst, arith}
 use Rattle.std.specs.Prelude.{IsSome}
 use seplogic.Ra.Ura.{Ura}
 use mir.Val.{Val, vstruct, vcons, vnil, of_list}
 use mir.Raw.{raw as bare}
 use base.Fraction.{full_share}
 use base.Logic.{emp, SProp, ent, sep, ex, guard, via, never, never_e, fst∗, snd∗, id⊢}
-use base.Fml.{Lft, Fml, Incl, ftrue, fsep, fat, froom}
-use contract.BorrowLft.{⊑_static}
+use base.Fml.{Lft, Fml, Incl, ftrue, fat, froom}
 use contract.Monad.{fact, fact_i, fact_use}
-use prog.Memory.{size}
 use prog.Model.{Model}
 use types.Logic.{Logic, sem}
 use denote.Shadow.{makes_shadow}
@@ -26,14 +24,14 @@ use denote.SharingLaws.{beside_shr_laws, nothing_shr_laws}
 use denote.Shares.{Shares-less}
 use denote.Steps.{nothing}
 use denote.Struct.Lending.{Lends, lent_at, lent_at_shr_laws, Lends-lies, Lends-first, Lends-both, Lends-nothing}
-use borrow.Table.OneValue.{part_in, part_out}
+use borrow.Table.OneValue.{part_out}
 use Rattle.std_alloc.specs.Box.Ownership.{box_owns}
 use Rattle.dep_list.specs.declared.node.Node.{Node}
 use Rattle.dep_list.specs.contracts.node.Node as N
 use Rattle.dep_list.specs.Cells.{same_ptr, find, put, take_out}
 use Rattle.dep_list.specs.Ownership.{chunk, cells_own, cells_lent}
 use Rattle.dep_list.proofs.node.Node.TheLaws.{the_row_laws}
-use Rattle.dep_list.proofs.Cells.{same_ptr_refl, same_ptr_eq}
+use Rattle.dep_list.proofs.Cells.{same_ptr_eq}
 
 pub cells_lent_laws : (cs : List (Ptr × Node)) → ShrLaws (cells_lent cs)
 cells_lent_laws [] = nothing_shr_laws

@@ -1,5 +1,5 @@
 -- Lists of values at places: altered, taken out, picked.
-use Rattle.std.proofs.Common.{◌≡◌, Bool, true, false, cond, List, [], ◌∷◌, ◌++◌, Option, Some, None, option_map, refl, sym, ap, ◌∙◌, subst, append-nil}
+use Rattle.std.proofs.Common.{◌≡◌, Bool, true, false, cond, List, [], ◌∷◌, ◌++◌, Option, Some, None, option_map, refl, sym, ap, ◌∙◌, subst}
 use Rattle.std.specs.Prelude.{IsSome}
 use denote.RawPtr.{Ptr}
 use Rattle.dep_list.specs.Cells.{same_ptr, find, put, take_out, places, values, alter, without, add, pick, Absent, Apart}
@@ -43,6 +43,10 @@ module _ {A : Type 0} where
   pub places-append : (xs ys : List (Ptr × A)) → places (xs ++ ys) ≡ places xs ++ places ys
   places-append [] ys = refl
   places-append (x ∷ xs) ys = ap (λ l. x.0 ∷ l) (places-append xs ys)
+
+  pub values-append : (xs ys : List (Ptr × A)) → values (xs ++ ys) ≡ values xs ++ values ys
+  values-append [] ys = refl
+  values-append (x ∷ xs) ys = ap (λ l. x.1 ∷ l) (values-append xs ys)
 
   pub places-alter : (g : A → A) (p : Ptr) (xs : List (Ptr × A)) → places (alter g p xs) ≡ places xs
   places-alter g p [] = refl
@@ -255,15 +259,15 @@ module _ {A B : Type 0} (f : A → Option B) where
   picked p (x ∷ xs) y a e =
       (elim (same_ptr x.0 p) as (λ b. same_ptr x.0 p ≡ b → Picked (x ∷ xs) p y) [
         | true ↦ λ d. record {
-            value = x.1;
-            found = λ i. cond (d i) (Some x.1) (find xs p);
-            shows = picked_here p x.0 x.1 (f x.1) (pick f xs) y d refl (find-absent p (pick f xs) (Absent-pick f p xs (absent_behind p x xs d a.0))) e;
-          }
+          value = x.1;
+          found = λ i. cond (d i) (Some x.1) (find xs p);
+          shows = picked_here p x.0 x.1 (f x.1) (pick f xs) y d refl (find-absent p (pick f xs) (Absent-pick f p xs (absent_behind p x xs d a.0))) e;
+        }
         | false ↦ λ d. let rest = picked p xs y a.1 (sym (find_add p x.0 (f x.1) (pick f xs) d) ∙ e) in record {
-            value = rest.value;
-            found = (λ i. cond (d i) (Some x.1) (find xs p)) ∙ rest.found;
-            shows = rest.shows;
-          }
+          value = rest.value;
+          found = (λ i. cond (d i) (Some x.1) (find xs p)) ∙ rest.found;
+          shows = rest.shows;
+        }
       ]) refl
 
 module _ {A : Type 0} where

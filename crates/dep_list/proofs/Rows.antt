@@ -1,13 +1,13 @@
 -- Chains: a node is put behind the last, or goes out of the middle.
-use Rattle.std.proofs.Common.{◌≡◌, ℕ, Bool, true, false, cond, List, [], ◌∷◌, ◌++◌, Option, Some, None, refl, sym, ap, ◌∙◌, subst, append-nil}
+use Rattle.std.proofs.Common.{◌≡◌, ℕ, Bool, cond, List, [], ◌∷◌, ◌++◌, Option, Some, None, refl, sym, ap, ◌∙◌, subst, append-nil}
 use denote.RawPtr.{Ptr}
 use Rattle.dep_list.specs.declared.node.Place.{Place}
 use Rattle.dep_list.specs.declared.node.Link.{Link}
 use Rattle.dep_list.specs.declared.node.Ends.{Ends}
-use Rattle.dep_list.specs.Cells.{same_ptr, find, places, alter, without, Absent, Apart}
+use Rattle.dep_list.specs.Cells.{same_ptr, places, alter, Absent, Apart}
 use Rattle.dep_list.specs.Lists.{place, next_to, prev_to, first_or, last_or, Chain, IsRow, Stack, alter_if, or_else, pushed_ends, if_none, cut_ends}
-use Rattle.dep_list.proofs.Cells.{same_ptr_refl, same_ptr_eq, same_ptr_symm}
-use Rattle.dep_list.proofs.Places.{Absent-append, Absent-left, Absent-right, Apart-left, Apart-right, Apart-before, Apart-behind, places-append, places-alter, alter-absent, alter-append, alter-id}
+use Rattle.dep_list.proofs.Cells.{same_ptr_refl, same_ptr_symm}
+use Rattle.dep_list.proofs.Places.{Absent-right, Apart-left, Apart-right, places-append, places-alter, alter-absent, alter-append}
 
 abbrev pub Step : Type 0
 Step = ℕ × Link
@@ -143,10 +143,11 @@ Chain-renext a (u ∷ w ∷ ws) y z c d =
 pub Chain-reprev : (a b : Option Place) (vs : List (Ptr × Step)) (z : Option Place) → Chain a vs z → Apart (places vs) → Chain b (alter_if (on_link (prev_to b)) (first_or None vs) vs) z
 Chain-reprev a b [] z c d = tt
 Chain-reprev a b (v ∷ vs) z c d =
-    let g = on_link (prev_to b) in
-    (ap (λ (t : Bool). (cond t (g v.1) v.1).1.prev) (same_ptr_refl v.0),
-     ap (λ (t : Bool). (cond t (g v.1) v.1).1.next) (same_ptr_refl v.0) ∙ c.1 ∙ sym (first_or-alter g v.0 z vs),
-     subst (λ (l : List (Ptr × Step)). Chain (Some (place v.0)) l z) (sym (alter-absent g v.0 vs d.0)) c.2)
+    let g = on_link (prev_to b) in (
+      ap (λ (t : Bool). (cond t (g v.1) v.1).1.prev) (same_ptr_refl v.0),
+      ap (λ (t : Bool). (cond t (g v.1) v.1).1.next) (same_ptr_refl v.0) ∙ c.1 ∙ sym (first_or-alter g v.0 z vs),
+      subst (λ (l : List (Ptr × Step)). Chain (Some (place v.0)) l z) (sym (alter-absent g v.0 vs d.0)) c.2,
+    )
 
 -- ---- a node comes behind the last
 
@@ -162,7 +163,7 @@ row_pushed : (e : Ends) (r : List (Ptr × Step)) (p : Ptr) (other : ℕ) → IsR
 row_pushed e r p other row d a =
     let l = last_or None r in let g = on_link (next_to (Some (place p))) in let c : Ptr × Step = (p, (other, record { prev = l; next = None })) in
     let split : alter_if g l (r ++ c ∷ []) ≡ alter_if g l r ++ c ∷ [] =
-        alter_if-append g l r (c ∷ []) ∙ ap (λ (t : List (Ptr × Step)). alter_if g l r ++ t) (alter_if-absent g l (c ∷ []) (last_other p None r a tt)) in
+    alter_if-append g l r (c ∷ []) ∙ ap (λ (t : List (Ptr × Step)). alter_if g l r ++ t) (alter_if-absent g l (c ∷ []) (last_other p None r a tt)) in
     record {
       first = ap (λ (f : Option Place). or_else f (Some (place p))) row.first ∙ first_pushed r c ∙ sym (first_or-alter_if g l None (r ++ c ∷ []));
       last = sym (last_or-alter_if g l None (r ++ c ∷ []) ∙ last_or-append None r (c ∷ []));
@@ -213,7 +214,7 @@ module _ (us vs : List (Ptr × Step)) (d : Apart (places (us ++ vs))) where
       ap (alter_if gP F) (alter_if-append gN L us vs ∙ ap (λ (t : List (Ptr × Step)). alter_if gN L us ++ t) (alter_if-absent gN L vs (last_disjoint None us (places vs) across tt)))
       ∙ alter_if-append gP F (alter_if gN L us) vs
       ∙ ap (λ (t : List (Ptr × Step)). t ++ alter_if gP F vs) (alter_if-absent gP F (alter_if gN L us)
-        (subst (AbsentIf F) (sym (places-alter_if gN L us)) (first_disjoint None vs (places us) (Disjoint-symm (places us) (places vs) across) tt)))
+      (subst (AbsentIf F) (sym (places-alter_if gN L us)) (first_disjoint None vs (places us) (Disjoint-symm (places us) (places vs) across) tt)))
 
   cut_chain : (y a : Option Place) → Chain None us y → Chain a vs None → Chain None (cut_row (record { prev = L; next = F }) (us ++ vs)) None
   cut_chain y a c e = subst (λ (t : List (Ptr × Step)). Chain None t None) (sym cut_parts)
@@ -223,9 +224,10 @@ module _ (us vs : List (Ptr × Step)) (d : Apart (places (us ++ vs))) where
 
   cut_ends_are : (e : Ends) (c : Ptr × Step) → e.first ≡ first_or None (us ++ c ∷ vs) → e.last ≡ last_or None (us ++ c ∷ vs)
       → (if_none L F e.first ≡ first_or None (cut_row (record { prev = L; next = F }) (us ++ vs))) × (if_none F L e.last ≡ last_or None (cut_row (record { prev = L; next = F }) (us ++ vs)))
-  cut_ends_are e c f l =
-      (ap (if_none L F) f ∙ first_cut us c vs ∙ sym (first_or-alter_if gP F None (alter_if gN L (us ++ vs)) ∙ first_or-alter_if gN L None (us ++ vs)),
-       ap (if_none F L) l ∙ last_cut us c vs ∙ sym (last_or-alter_if gP F None (alter_if gN L (us ++ vs)) ∙ last_or-alter_if gN L None (us ++ vs)))
+  cut_ends_are e c f l = (
+    ap (if_none L F) f ∙ first_cut us c vs ∙ sym (first_or-alter_if gP F None (alter_if gN L (us ++ vs)) ∙ first_or-alter_if gN L None (us ++ vs)),
+    ap (if_none F L) l ∙ last_cut us c vs ∙ sym (last_or-alter_if gP F None (alter_if gN L (us ++ vs)) ∙ last_or-alter_if gN L None (us ++ vs)),
+  )
 
   row_cut : (e : Ends) (p : Ptr) (x : Step) → IsRow e (us ++ (p, x) ∷ vs) → x.1 ≡ record { prev = L; next = F } → IsRow (cut_ends (record { prev = L; next = F }) e) (cut_row (record { prev = L; next = F }) (us ++ vs))
   row_cut e p x row same =

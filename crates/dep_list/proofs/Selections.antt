@@ -1,5 +1,5 @@
 -- What the change of one node's neighbours does to the rows, the pairs and the spare nodes.
-use Rattle.std.proofs.Common.{◌≡◌, ◌≢◌, ℕ, Bool, true, false, cond, ◌&&◌, ◌==◌, List, [], ◌∷◌, ◌++◌, Option, Some, None, option_map, refl, sym, ap, ◌∙◌, subst, append-nil, T, eqb→eq}
+use Rattle.std.proofs.Common.{◌≡◌, ◌≢◌, ℕ, Bool, true, false, cond, ◌&&◌, ◌==◌, List, [], ◌∷◌, ◌++◌, Option, Some, None, option_map, refl, sym, ap, ◌∙◌, subst, T, eqb→eq}
 use Rattle.std.specs.Prelude.{IsSome}
 use lib.Dec.{eqb_refl}
 use denote.RawPtr.{Ptr}
@@ -8,10 +8,10 @@ use Rattle.dep_list.specs.declared.node.Link.{Link}
 use Rattle.dep_list.specs.declared.node.Node.{Node}
 use Rattle.dep_list.specs.declared.node.Side.{Side}
 use Rattle.dep_list.specs.declared.node.Side.TheVariants.{Reader, Point}
-use Rattle.dep_list.specs.Cells.{same_ptr, find, places, alter, without, add, pick, Absent, Apart}
-use Rattle.dep_list.specs.Lists.{place, key_of, other_of, link_of, with_link, next_to, prev_to, pair_if, step_if, below_if, entries, row, frees, first_or, last_or, alter_if}
-use Rattle.dep_list.proofs.Places.{alter-id, pick-alter, Absent-pick, Apart-pick, picked, found-append_left, found-append_right, found-alter, found_first, find-cut}
-use Rattle.dep_list.proofs.Rows.{Step, on_link, AbsentIf, Disjoint, Disjoint-push, alter_if-absent, cut_row, last_disjoint, first_disjoint, Disjoint-left, Disjoint-right, places-alter_if}
+use Rattle.dep_list.specs.Cells.{find, places, add, pick, Absent, Apart}
+use Rattle.dep_list.specs.Lists.{place, key_of, other_of, link_of, with_link, next_to, prev_to, pair_if, step_if, below_if, entries, row, frees, first_or, last_or, alter_if, FoundIf}
+use Rattle.dep_list.proofs.Places.{alter-id, pick-alter, Absent-pick, picked, found-append_right, found-alter, found_first}
+use Rattle.dep_list.proofs.Rows.{Step, on_link, AbsentIf, Disjoint, Disjoint-push, alter_if-absent}
 
 abbrev pub opposite : Side → Side
 opposite Reader = Point
@@ -102,9 +102,9 @@ key_is side k n y e = eqb→eq (key_of side n) k (true_of (key_of side n == k) (
 
 false_of : (k j : ℕ) → k ≢ j → (k == j) ≡ false
 false_of k j n = (elim (k == j) as (λ b. (k == j) ≡ b → (k == j) ≡ false) [
-    | true ↦ λ e. absurd (n (eqb→eq k j (true_of (k == j) e)))
-    | false ↦ λ e. e
-  ]) refl
+  | true ↦ λ e. absurd (n (eqb→eq k j (true_of (k == j) e)))
+  | false ↦ λ e. e
+]) refl
 
 not_both : (b c : Bool) (y : Step) → c ≡ false → cond (b && c) (Some y) None ≡ None
 not_both true c y e = λ i. cond (e i) (Some y) None
@@ -127,10 +127,6 @@ pub row_frees_disjoint : (side : Side) (k : ℕ) (cs : List (Ptr × Node)) → A
 row_frees_disjoint side k cs a = pick-disjoint (step_if side k) below_if (λ n y e. ap (λ (b : Bool). cond b None (Some n.by_reader.next)) (step_linked side k n y e).0) cs a
 
 -- ---- what a node out of a row leads to is there
-
-abbrev pub FoundIf : {A : Type 0} → Option Place → List (Ptr × A) → Type 0
-FoundIf None cs = Unit {0}
-FoundIf (Some q) cs = IsSome (find cs q.ptr)
 
 last_found_at : {A : Type 0} (x : Ptr × A) (xs ys : List (Ptr × A)) → FoundIf (last_or (Some (place x.0)) xs) ((x ∷ xs) ++ ys)
 last_found_at x [] ys = found_first x ys

@@ -1,5 +1,5 @@
 -- Lists of values that stand at places, as all nodes do. The order of the list is the order of linking.
-use Rattle.std.specs.Prelude.{◌≡◌, ℕ, Bool, true, false, ◌&&◌, ◌==◌, if◌then◌else◌, List, [], ◌∷◌, ◌++◌, Option, Some, None}
+use Rattle.std.specs.Prelude.{◌≡◌, Bool, true, false, ◌&&◌, ◌==◌, if◌then◌else◌, List, [], ◌∷◌, Option, Some, None}
 use denote.RawPtr.{Ptr, block_ptr, null_ptr}
 
 -- whether two pointers are the same

@@ -1,5 +1,5 @@
 -- The invariant of the lists: each reader's and each point's list has exactly its pairs, in order of linking, and the spare nodes are a stack.
-use Rattle.std.specs.Prelude.{◌≡◌, ℕ, ◌+◌, ◌^◌, ◌<◌, Bool, true, false, ◌&&◌, ◌==◌, if◌then◌else◌, List, [], ◌∷◌, length, Option, Some, None, slice_set, slice_index_or}
+use Rattle.std.specs.Prelude.{◌≡◌, ℕ, ◌+◌, ◌^◌, ◌<◌, ◌≤◌, false, ◌&&◌, ◌==◌, if◌then◌else◌, List, [], ◌∷◌, length, Option, Some, None, IsSome, not, map, filter, slice_set, slice_index_or}
 use denote.RawPtr.{Ptr}
 use Rattle.dep_list.specs.declared.node.Place.{Place}
 use Rattle.dep_list.specs.declared.node.Link.{Link}
@@ -8,7 +8,8 @@ use Rattle.dep_list.specs.declared.node.Ends.{Ends}
 use Rattle.dep_list.specs.declared.node.Side.{Side}
 use Rattle.dep_list.specs.declared.node.Side.TheVariants.{Reader, Point}
 use Rattle.dep_list.specs.declared.lists.Lists.{Lists}
-use Rattle.dep_list.specs.Cells.{same_ptr, places, alter, pick, Apart}
+use Rattle.dep_list.specs.Cells.{same_ptr, find, places, values, alter, pick, Apart}
+use Rattle.dep_list.specs.Pairs.{Pairs}
 
 abbrev pub place : Ptr → Place
 place p = record { ptr = p }
@@ -176,3 +177,74 @@ cut_ends l e = record { first = if_none l.prev l.next e.first; last = if_none l.
 -- the neighbours of a node that goes out of a list lead to each other
 abbrev pub cut : Side → ℕ → Link → State → State
 cut side k l s = with_ends side k (cut_ends l (ends_at side k s)) (prev_set side l.next l.prev (next_set side l.prev l.next s))
+
+-- ---- what the calls keep
+
+-- as many readers, points and nodes as before
+pub record SameRoom (old new : State) : Type 0 where
+  pub readers : length new.readers ≡ length old.readers
+  pub points : length new.points ≡ length old.points
+  pub total : new.spare + new.count ≡ old.spare + old.count
+
+-- the pairs, and the readers and points, are the same
+pub record SamePairs (old new : State) : Type 0 where
+  pub pairs : entries new.cells ≡ entries old.cells
+  pub readers : length new.readers ≡ length old.readers
+  pub points : length new.points ≡ length old.points
+
+-- the pairs in order of linking
+abbrev pub pairs_of : State → List (ℕ × ℕ)
+pairs_of s = values (entries s.cells)
+
+-- the end of a pair that is on a side, and the one on the other
+abbrev pub key_end : Side → ℕ × ℕ → ℕ
+key_end Reader x = x.0
+key_end Point x = x.1
+
+abbrev pub other_end : Side → ℕ × ℕ → ℕ
+other_end Reader x = x.1
+other_end Point x = x.0
+
+-- the pairs that are of another reader, or another point
+abbrev pub drop_key : Side → ℕ → List (ℕ × ℕ) → List (ℕ × ℕ)
+drop_key side k pairs = filter (λ x. not (key_end side x == k)) pairs
+
+-- the other ends of the pairs of a reader, or a point
+abbrev pub others_of : Side → ℕ → List (ℕ × ℕ) → List ℕ
+others_of side k pairs = map (other_end side) (filter (λ x. key_end side x == k) pairs)
+
+-- the other ends of a row's pairs
+abbrev pub others : List (Ptr × (ℕ × Link)) → List ℕ
+others [] = []
+others (c ∷ cs) = c.1.0 ∷ others cs
+
+-- what of a list begins at a place
+abbrev pub rest : {A : Type 0} → List (Ptr × A) → Option Place → List (Ptr × A)
+rest cs None = []
+rest [] (Some q) = []
+rest (c ∷ cs) (Some q) = if same_ptr c.0 q.ptr then c ∷ cs else rest cs (Some q)
+
+-- a value stands at the place, if there is one
+abbrev pub FoundIf : {A : Type 0} → Option Place → List (Ptr × A) → Type 0
+FoundIf None cs = Unit {0}
+FoundIf (Some q) cs = IsSome (find cs q.ptr)
+
+-- what a contract sees of the lists
+abbrev pub seen : State → Pairs
+seen s = record { pairs = pairs_of s; spare = s.spare; readers = length s.readers; points = length s.points }
+
+-- no list and no node yet
+abbrev pub no_lists : State
+no_lists = record { cells = []; readers = []; points = []; top = None; spare = 0; count = 0 }
+
+-- every pair's reader is at least this number
+abbrev pub AllFrom : ℕ → List (ℕ × ℕ) → Type 0
+AllFrom k [] = Unit {0}
+AllFrom k (x ∷ xs) = (k ≤ x.0) × AllFrom k xs
+
+-- no node is linked, and the spare ones are a stack
+pub record IsSpare (s : State) : Type 0 where
+  pub apart : Apart (places s.cells)
+  pub none : entries s.cells ≡ []
+  pub stack : Stack None (frees s.cells)
+  pub top : s.top ≡ last_or None (frees s.cells)

@@ -1,5 +1,5 @@
 -- What a contract sees of `Deps`: its pairs in order of linking, each a reader and a point, how many more it has room for, and below which numbers readers and points are.
-use Rattle.std.specs.Prelude.{◌≡◌, ℕ, ◌⊎◌, ◌==◌, if◌then◌else◌, List, [], ◌∷◌}
+use Rattle.std.specs.Prelude.{◌≡◌, ℕ, ◌≤◌, ◌⊎◌, ◌==◌, not, List, [], ◌∷◌, map, filter}
 
 pub record Pairs : Type 0 where
   pub pairs : List (ℕ × ℕ)
@@ -18,20 +18,28 @@ In x (y ∷ ys) = (x ≡ y) ⊎ In x ys
 
 -- the readers of a point, in order of linking
 abbrev pub readers_of : ℕ → List (ℕ × ℕ) → List ℕ
-readers_of point [] = []
-readers_of point (p ∷ ps) = if p.1 == point then p.0 ∷ readers_of point ps else readers_of point ps
+readers_of point pairs = map (λ x. x.0) (filter (λ x. x.1 == point) pairs)
+
+-- the points of a reader, in order of linking
+abbrev pub points_of : ℕ → List (ℕ × ℕ) → List ℕ
+points_of reader pairs = map (λ x. x.1) (filter (λ x. x.0 == reader) pairs)
 
 -- the pairs of all other readers, in the same order
 abbrev pub drop_reader : ℕ → List (ℕ × ℕ) → List (ℕ × ℕ)
-drop_reader reader [] = []
-drop_reader reader (p ∷ ps) = if p.0 == reader then drop_reader reader ps else p ∷ drop_reader reader ps
+drop_reader reader pairs = filter (λ x. not (x.0 == reader)) pairs
 
 -- the pairs of all other points, in the same order
 abbrev pub drop_point : ℕ → List (ℕ × ℕ) → List (ℕ × ℕ)
-drop_point point [] = []
-drop_point point (p ∷ ps) = if p.1 == point then drop_point point ps else p ∷ drop_point point ps
+drop_point point pairs = filter (λ x. not (x.1 == point)) pairs
 
--- both admit the same readers and points
+-- the same readers and points are admitted
 pub record SameEnds (old new : Pairs) : Type 0 where
   pub readers : new.readers ≡ old.readers
   pub points : new.points ≡ old.points
+
+-- no fewer readers and points are admitted, and the pairs and the room are the same
+pub record MoreEnds (old new : Pairs) : Type 0 where
+  pub pairs : new.pairs ≡ old.pairs
+  pub spare : new.spare ≡ old.spare
+  pub readers : old.readers ≤ new.readers
+  pub points : old.points ≤ new.points

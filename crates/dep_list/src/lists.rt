@@ -1,14 +1,11 @@
 //! The lists of readers and points, over nodes that it owns. Nothing here follows a raw pointer.
-ghost use Rattle.std.specs.Prelude.{◌≡◌, ◌≢◌, ℕ, ◌+◌, ◌≤◌, ◌<◌, [], ◌∷◌, ◌++◌, length, Some, None, IsSome, OnOk};
-ghost use Rattle.std.specs.Option.{ForSome};
-ghost use Rattle.dep_list.specs.Cells.{find, places, values, without, Apart};
-ghost use Rattle.dep_list.specs.Lists.{Held, state, ends_of, ends_at, with_ends, next_set, prev_set, pushed, cut, entries, frees};
+ghost use Rattle.std.specs.Prelude.{◌≡◌, ◌<◌, length};
+ghost use Rattle.dep_list.specs.Cells.{places, Apart};
+ghost use Rattle.dep_list.specs.Lists.{state, ends_of, ends_at, with_ends, next_set, prev_set, pushed, cut_ends, cut, FoundIf};
 
-use crate::node::{Ends, Link, Node, Place, Side};
+use crate::node::{Ends, Link, Place, Side};
 use crate::nodes::Nodes;
-use crate::steps::{leading_back, leading_on, spare_node};
-use slint_base::Memory;
-use std::alloc::Global;
+use crate::steps::{leading_back, leading_on};
 
 pub struct Lists {
     pub(crate) nodes: Nodes,
@@ -21,7 +18,7 @@ pub struct Lists {
 
 impl Lists {
     // The two ends of one list.
-    fn ends(&self, side: Side, key: usize) -> Ends
+    pub(crate) fn ends(&self, side: Side, key: usize) -> Ends
         requires { key < length (ends_of side (state self.now)) }
         ensures { result ≡ ends_at side key (state self.now) }
     {
@@ -44,7 +41,7 @@ impl Lists {
     // The node at `at`, if any, leads on to `to`.
     fn set_next(&mut self, side: Side, at: Option<Place>, to: Option<Place>)
         requires apart { Apart (places (state self.old).cells) }
-        requires there { ForSome at (λ p. IsSome (find (state self.old).cells p.ptr)) }
+        requires there { FoundIf at (state self.old).cells }
         ensures { state self.new ≡ next_set side at to (state self.old) }
     {
         if let Some(at) = at {
@@ -56,7 +53,7 @@ impl Lists {
     // The node at `at`, if any, leads back to `to`.
     fn set_prev(&mut self, side: Side, at: Option<Place>, to: Option<Place>)
         requires apart { Apart (places (state self.old).cells) }
-        requires there { ForSome at (λ p. IsSome (find (state self.old).cells p.ptr)) }
+        requires there { FoundIf at (state self.old).cells }
         ensures { state self.new ≡ prev_set side at to (state self.old) }
     {
         if let Some(at) = at {
@@ -64,4 +61,51 @@ impl Lists {
             self.nodes.set(at, node);
         }
     }
+
+    // A node comes behind the last of one list.
+    pub(crate) fn push_end(&mut self, side: Side, key: usize, at: Place)
+        requires inside { key < length (ends_of side (state self.old)) }
+        requires apart { Apart (places (state self.old).cells) }
+        requires there { FoundIf (ends_at side key (state self.old)).last (state self.old).cells }
+        ensures { state self.new ≡ pushed side key at.ptr (state self.old) }
+    {
+        let ends = self.ends(side, key);
+        self.set_next(side, ends.last, Some(at));
+        let first = match ends.first {
+            None => Some(at),
+            Some(first) => Some(first),
+        };
+        let last = Some(at);
+        self.set_ends(side, key, Ends { first, last });
+    }
+
+    // The neighbours of a node that goes out of one list lead to each other.
+    pub(crate) fn cut_out(&mut self, side: Side, key: usize, link: Link)
+        requires inside { key < length (ends_of side (state self.old)) }
+        requires apart { Apart (places (state self.old).cells) }
+        requires prev { FoundIf link.prev (state self.old).cells }
+        requires next { FoundIf link.next (state self.old).cells }
+        ensures { state self.new ≡ cut side key link (state self.old) }
+    {
+        let ends = self.ends(side, key);
+        self.set_next(side, link.prev, link.next);
+        self.set_prev(side, link.next, link.prev);
+        let ends = ends_without(link, ends);
+        self.set_ends(side, key, ends);
+    }
+}
+
+// The ends of a list out of which a node with these neighbours goes.
+fn ends_without(link: Link, ends: Ends) -> Ends
+    ensures { result ≡ cut_ends link ends }
+{
+    let first = match link.prev {
+        None => link.next,
+        Some(_) => ends.first,
+    };
+    let last = match link.next {
+        None => link.prev,
+        Some(_) => ends.last,
+    };
+    Ends { first, last }
 }

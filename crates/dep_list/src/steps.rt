@@ -4,7 +4,6 @@ ghost use Rattle.dep_list.specs.Lists.{link_of, with_link, next_to, prev_to, spa
 
 use crate::node::{Link, Node, Place, Side};
 
-
 // A spare node above `below`.
 pub(crate) fn spare_node(below: Option<Place>) -> Node
     ensures { result ≡ spare_node below }

@@ -9,7 +9,7 @@ returns-in-Some c =
     let s = state c.args.self.now in
     let g = with_link c.args.side (prev_to c.args.to) in
     let written : c.set.new.self.cells ≡ alter_if g c.args.at s.cells =
-        c.set.ensures ∙ ap (put s.cells c.in-Some.at.ptr) c.leading_back-node.ensures
-        ∙ put-alter g c.in-Some.at.ptr s.cells c.get.result.now c.requires.apart c.get.ensures
-        ∙ ap (λ at. alter_if g at s.cells) (sym c.in-Some.is) in
+    c.set.ensures ∙ ap (put s.cells c.in-Some.at.ptr) c.leading_back-node.ensures
+    ∙ put-alter g c.in-Some.at.ptr s.cells c.get.result.now c.requires.apart c.get.ensures
+    ∙ ap (λ at. alter_if g at s.cells) (sym c.in-Some.is) in
     λ i. record s { cells = written i }

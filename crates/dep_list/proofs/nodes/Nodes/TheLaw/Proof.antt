@@ -1,5 +1,4 @@
 -- A `&` to the owner reaches each node. Assumes `Logic`.
-use mathlib.Core.List.{[], ◌++◌}
 use contract.BorrowLft.{⊑_static}
 use denote.RawPtr.{RawPtr}
 use denote.Param.Shared.{copy_shared}

@@ -1,14 +1,12 @@
 -- `adopt` takes a node over, which lies apart from all others. Assumes `Logic`.
-use Rattle.std.proofs.Common.{◌≡◌, ℕ, None, List, [], ◌∷◌, ◌++◌, refl, sym, subst}
+use Rattle.std.proofs.Common.{◌≡◌, None, List, [], ◌∷◌, ◌++◌, refl, sym, subst}
 use Rattle.std.proofs.raw_atomic.Walks.{proved_at}
-use base.Fraction.{full_share}
 use base.Logic.{SProp, ent, id⊢}
-use base.Fml.{ftrue, flft, fsep}
-use mir.Syntax.{named}
+use base.Fml.{ftrue, flft}
 use mir.Val.{Val, vptr}
 use prog.Wp.{WpFn}
 use contract.Running.{tables}
-use types.Kit.{‵, raw, ◌⊛◌, ◌$◌, ◌∵◌, !, qed, done, move, keep, drop, split, join, fsplit, fsplit3, fjoin, fjoin3, feq_i, feq_l, suffices, frame}
+use types.Kit.{‵, raw, ◌⊛◌, ◌$◌, ◌∵◌, !, qed, done, move, keep, split, join, fsplit, fsplit3, fjoin, fjoin3, feq_i, feq_l, suffices, frame}
 use types.Run.{enter, of_opd, and_then, no_more, stop, fld, returns}
 use types.Part.{whole, sub, agg}
 use types.ByLocal.{alloc_all, pass_all, free_all, look_at, get, get_in, sets}
@@ -27,7 +25,6 @@ use Rattle.dep_list.specs.contracts.nodes.Nodes.{the_row as R}
 use Rattle.dep_list.specs.contracts.node.Node.{the_row as NodeRow}
 use Rattle.dep_list.specs.contracts.nodes.Nodes.adopt as f
 use Rattle.dep_list.specs.Cells.{find}
-use Rattle.dep_list.specs.Ownership.{cells_own}
 use Rattle.dep_list.proofs.Memory.{cell_fresh, knows, says_both, word_made}
 use Rattle.dep_list.proofs.Values.{Loose, both, loose_good, loose_out}
 use Rattle.dep_list.proofs.nodes.Nodes.adopt.Statement.{statement}

@@ -1,8 +1,8 @@
 -- `get` shows the node at `at`, which the owner lends. Assumes `Logic`.
-use Rattle.std.proofs.Common.{◌≡◌, ℕ, Some, List, [], ◌∷◌, refl}
+use Rattle.std.proofs.Common.{◌≡◌, Some, List, [], ◌∷◌, refl}
 use Rattle.std.proofs.raw_atomic.Walks.{proved}
 use base.Fraction.{full_share}
-use base.Logic.{ent, never, fst∗}
+use base.Logic.{never, fst∗}
 use base.Fml.{ftrue, fat, flft}
 use mir.Syntax.{named}
 use mir.Val.{Val, vptr}
@@ -16,7 +16,7 @@ use denote.Builtin.{RefOf}
 use denote.Exit.{yes}
 use denote.Memory.{lone, shared_of}
 use denote.Opens.{hide, unhide}
-use denote.RawPtr.{Ptr, block_ptr, in_a_block}
+use denote.RawPtr.{Ptr, in_a_block}
 use denote.Ref.{ShrRef, shr_vals, shr_Tells}
 use denote.Signature.{plain}
 use denote.Steps.{nothing, heard}

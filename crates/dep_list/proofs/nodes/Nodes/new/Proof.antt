@@ -1,9 +1,8 @@
 -- `new` owns nothing yet. Assumes `Logic`.
 use Rattle.std.proofs.Common.{[], ◌∷◌, refl}
 use Rattle.std.proofs.raw_atomic.Walks.{proved}
-use base.Fml.{ftrue}
 use contract.Running.{tables}
-use types.Kit.{‵, raw, ◌$◌, ◌∵◌, !, qed, done, keep, drop, fjoin, use0, suffices, frame}
+use types.Kit.{‵, raw, ◌$◌, ◌∵◌, !, qed, done, drop, fjoin, use0, suffices, frame}
 use types.Run.{enter, and_then, no_more, returns}
 use types.Part.{agg}
 use types.ByLocal.{alloc_all, pass_all, free_all, look_at, get, sets}

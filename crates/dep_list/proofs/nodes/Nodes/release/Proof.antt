@@ -1,15 +1,14 @@
 -- `release` gives a node away. Assumes `Logic`.
-use Rattle.std.proofs.Common.{◌≡◌, ℕ, Some, List, [], ◌∷◌, ◌++◌, refl, sym, subst}
+use Rattle.std.proofs.Common.{◌≡◌, Some, List, [], ◌∷◌, ◌++◌, refl, sym, subst}
 use Rattle.std.specs.Prelude.{IsSome}
 use Rattle.std.proofs.raw_atomic.Walks.{proved_at}
 use base.Fraction.{full_share}
 use base.Logic.{SProp, ent, id⊢}
-use base.Fml.{ftrue, flft, fsep, fat}
-use mir.Syntax.{named}
+use base.Fml.{ftrue, flft, fat}
 use mir.Val.{Val, vptr}
 use prog.Wp.{WpFn}
 use contract.Running.{tables}
-use types.Kit.{‵, raw, ◌⊛◌, some, given, ◌$◌, ◌∵◌, !, qed, done, move, keep, drop, use1, split, join, fsplit, fsplit3, fjoin, fjoin3, feq_i, feq_l, pick, learn, rewrite, suffices, frame}
+use types.Kit.{‵, raw, ◌⊛◌, some, given, ◌$◌, ◌∵◌, !, qed, done, move, keep, use1, split, join, fsplit, fsplit3, fjoin, fjoin3, feq_i, feq_l, pick, learn, rewrite, suffices, frame}
 use types.Run.{enter, and_then, no_more, stop, fld, returns}
 use types.Part.{whole, sub, agg}
 use types.ByLocal.{alloc_all, pass_all, free_all, look_at, get, get_in, sets, take_at, give_at}

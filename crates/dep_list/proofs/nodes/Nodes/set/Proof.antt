@@ -1,24 +1,21 @@
 -- `set` writes the node at `at`. Assumes `Logic`.
-use Rattle.std.proofs.Common.{◌≡◌, ℕ, Some, List, [], ◌∷◌, refl, sym, ap, ◌∙◌, arith}
+use Rattle.std.proofs.Common.{◌≡◌, Some, [], ◌∷◌, refl, sym, ap}
 use Rattle.std.proofs.raw_atomic.Walks.{proved}
 use base.Fraction.{full_share}
-use base.Logic.{id⊢}
-use base.Fml.{ftrue, fat, flft, fsep}
+use base.Fml.{ftrue, fat, flft}
 use mir.Syntax.{named}
-use mir.Val.{Val, vunit, vptr}
+use mir.Val.{Val, vunit}
 use contract.Running.{tables}
 use types.Kit.{‵, raw, ◌⊛◌, some, given, at_ret, ◌$◌, ◌∵◌, !, qed, done, move, keep, drop, use1, use2, split, join, fsplit, fsplit3, fjoin, feq_i, pick, learn, rewrite, suffices, frame, group}
 use types.Run.{enter, of_opd, unit_lit, store, stop, fld, assigns_last, first, blocks, exec, returns}
 use types.Part.{whole, sub}
 use types.ByLocal.{alloc_all, pass_all, free_all, look_at, get, get_in, is, through, sets, env}
 use denote.Exit.{yes}
-use denote.Laws.{shows, Is}
 use denote.Memory.{lone}
 use denote.RawPtr.{Ptr, block_ptr, ptr_val, lies_at, in_a_block}
 use denote.Ref.{MutRef, mut_vals, mut_Tells}
 use denote.Signature.{plain}
 use denote.Steps.{nothing, opens, closes, heard}
-use denote.Triple.Entry.{on_entry}
 use denote.Triple.Walked.{Stays, walk_of, says, stay_dropped, Goes-dropped, stay_ref, Goes-ref, ends_at}
 use borrow.Table.OneValue.{part_in, part_out}
 use Rattle.std.proofs.VecSteps.Shapes.{after}
