@@ -1,0 +1,13 @@
+//! Sizes and places of what a layout holds: boxes along an axis, and the tracks of grids.
+#![tactic(auto)]
+
+mod boxes;
+mod items;
+mod laws;
+mod levels;
+mod sizings;
+
+pub use boxes::solve_box;
+pub use items::{Cell, Item};
+pub use laws::room_is_shared_one_way;
+pub use sizings::Sizing;
