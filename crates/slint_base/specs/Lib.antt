@@ -2,3 +2,4 @@ pub mod Answers
 pub mod Names
 pub mod Numbers
 pub mod Rules
+pub mod Texts
