@@ -4,8 +4,9 @@ use Rattle.std.specs.List.{AllByRecursion}
 use Rattle.std.proofs.lemmas.Int.{ints, by_lt_z}
 use Rattle.std.proofs.lemmas.Bool.{cases_lt}
 use Rattle.std.proofs.lemmas.List.Elements.{recursion_from_All}
+use Rattle.slint_base.specs.Numbers.{most_units}
 use Rattle.layout_solve.specs.declared.items.Item.{Item}
-use Rattle.layout_solve.specs.Items.{limit, IsItem}
+use Rattle.layout_solve.specs.Items.{IsItem}
 use Rattle.layout_solve.specs.Sizes.{total, grown, shrunk, are_weightless, preferred_sum, least_sum, FitsGrown, FitsShrunk, IsGreatest, IsLeast}
 use Rattle.layout_solve.proofs.ItemSizes.{grown-rises, grown-none, shrunk-falls, shrunk-all}
 use Rattle.layout_solve.proofs.Totals.{total-map-le, total-map_same}
@@ -22,9 +23,9 @@ pub record IsBetween (items : List Item) (room : ℤ) (low high : ℕ) : Type 0 
   pub ordered : low ≤ high
   pub has : FitsGrown items room low
   pub bound : (j : ℕ) → FitsGrown items room j → j ≤ high
-  pub within : high ≤ limit
+  pub within : high ≤ most_units
 
-pub between-first : (items : List Item) (room : ℤ) → All IsItem items → preferred_sum items ≤ℤ room → IsBetween items room 0 limit
+pub between-first : (items : List Item) (room : ℤ) → All IsItem items → preferred_sum items ≤ℤ room → IsBetween items room 0 most_units
 between-first items room all fits = record {
     ordered = omega arith;
     has = record {
@@ -64,12 +65,12 @@ pub record IsAround (items : List Item) (room : ℤ) (low high : ℕ) : Type 0 w
   pub ordered : low ≤ high
   pub has : FitsShrunk items room high
   pub bound : (j : ℕ) → FitsShrunk items room j → low ≤ j
-  pub within : high ≤ 2 * limit
+  pub within : high ≤ 2 * most_units
 
-pub around-first : (items : List Item) (room : ℤ) → All IsItem items → least_sum items ≤ℤ room → IsAround items room 0 (2 * limit)
+pub around-first : (items : List Item) (room : ℤ) → All IsItem items → least_sum items ≤ℤ room → IsAround items room 0 (2 * most_units)
 around-first items room all fits = record {
     ordered = omega arith;
-    has = record { fits = omega (arith, ints, fits, total-map_same IsItem (shrunk (2 * limit)) (λ item. item.min) shrunk-all items (recursion_from_All IsItem items all)) };
+    has = record { fits = omega (arith, ints, fits, total-map_same IsItem (shrunk (2 * most_units)) (λ item. item.min) shrunk-all items (recursion_from_All IsItem items all)) };
     bound = λ j f. omega arith;
     within = omega arith;
   }

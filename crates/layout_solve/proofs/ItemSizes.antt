@@ -4,8 +4,9 @@ use Rattle.std.proofs.Math.Nat.{mul-le-mul_right}
 use Rattle.std.proofs.lemmas.Nat.{mul-le}
 use Rattle.std.proofs.lemmas.Int.{ints, clamps, by_lt_z}
 use Rattle.std.specs.Int.{int_min, int_max}
+use Rattle.slint_base.specs.Numbers.{most_units}
 use Rattle.layout_solve.specs.declared.items.Item.{Item}
-use Rattle.layout_solve.specs.Items.{limit, IsItem, IsWithinLimits}
+use Rattle.layout_solve.specs.Items.{IsItem, IsWithinLimits}
 use Rattle.layout_solve.specs.Sizes.{weight_in, grown, shrunk}
 
 -- a weight that counts is from 0 to 1,000,000
@@ -58,5 +59,5 @@ grown-none even item is = omega (arith, ints, clamps, gain-none (weight_in even 
 pub shrunk-falls : (j k : ℕ) (item : Item) → j ≤ k → shrunk k item ≤ℤ shrunk j item
 shrunk-falls j k item le = omega (arith, ints, clamps)
 
-pub shrunk-all : (item : Item) → IsItem item → shrunk (2 * limit) item ≡ item.min
+pub shrunk-all : (item : Item) → IsItem item → shrunk (2 * most_units) item ≡ item.min
 shrunk-all item is = omega (arith, ints, clamps, is.low, is.ordered, is.topped, is.high)

@@ -2,6 +2,7 @@ pub mod Bounds
 pub mod Growth
 pub mod Halving
 pub mod ItemSizes
+pub mod Offsets
 pub mod OneWay
 pub mod Sharing
 pub mod Totals

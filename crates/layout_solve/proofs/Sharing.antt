@@ -3,9 +3,10 @@ use Rattle.std.proofs.Common.{◌≡◌, ℕ, ◌+◌, ◌*◌, ◌<◌, ◌≤�
 use Rattle.std.specs.Int.{w128, int_min, int_max}
 use Rattle.std.proofs.lemmas.Int.{ints, clamps, to_z-of_z}
 use Rattle.std.proofs.lemmas.List.{take_more_set, at_drop_more, at_drop_all}
+use Rattle.slint_base.specs.Numbers.{most_units}
 use Rattle.layout_solve.specs.declared.items.Item.{Item}
 use Rattle.layout_solve.specs.declared.sizings.Sizing.{Sizing}
-use Rattle.layout_solve.specs.Items.{limit, IsItem, IsWithinLimits}
+use Rattle.layout_solve.specs.Items.{IsItem, IsWithinLimits}
 use Rattle.layout_solve.specs.Sizes.{total, shared, divided, size_at, more_at}
 use Rattle.layout_solve.proofs.Bounds.{size_within, more_at-is}
 use Rattle.layout_solve.proofs.Wide.{IsHeld, kept, kept-is, kept_within, within-is, both, near_fits}
@@ -36,7 +37,7 @@ gift-is sizing item left given is some e =
     }
 
 -- a gift is within the limits, but for one unit
-pub gift_within : (sizing : Sizing) (item : Item) (given : ℤ) → IsItem item → pos 0 ≤ℤ given → (size_at sizing item +ℤ given) ≤ℤ (item.max +ℤ pos 1) → given ≤ℤ pos (2 * limit + 1)
+pub gift_within : (sizing : Sizing) (item : Item) (given : ℤ) → IsItem item → pos 0 ≤ℤ given → (size_at sizing item +ℤ given) ≤ℤ (item.max +ℤ pos 1) → given ≤ℤ pos (2 * most_units + 1)
 gift_within sizing item given is some light =
     let s = size_within sizing item is in omega (arith, ints, light, is.high, s.low)
 

@@ -4,7 +4,8 @@ use Rattle.std.specs.List.{AllByRecursion}
 use Rattle.std.proofs.lemmas.Int.{ints}
 use Rattle.std.proofs.lemmas.List.{take_more, map-append}
 use Rattle.std.proofs.lemmas.List.Elements.{recursion_from_All}
-use Rattle.layout_solve.specs.Items.{limit, IsWithinLimits}
+use Rattle.slint_base.specs.Numbers.{most_units}
+use Rattle.layout_solve.specs.Items.{IsWithinLimits}
 use Rattle.layout_solve.specs.Sizes.{total}
 use Rattle.layout_solve.proofs.Wide.{IsHeld}
 
@@ -35,8 +36,8 @@ total-map_same P f g same (x ∷ xs) all = ap (λ y. y +ℤ total (map f xs)) (s
 -- a sum of so many elements so far, each within the limits
 pub record IsSummed {X : Type 0} (f : X → ℤ) (xs : List X) (i : ℕ) (sum : ℤ) : Type 0 where
   pub is : sum ≡ total (map f (take i xs))
-  pub low : neg_ℤ (pos (limit * i)) ≤ℤ sum
-  pub high : sum ≤ℤ pos (limit * i)
+  pub low : neg_ℤ (pos (most_units * i)) ≤ℤ sum
+  pub high : sum ≤ℤ pos (most_units * i)
 
 pub summed-none : {X : Type 0} (f : X → ℤ) (xs : List X) → IsSummed f xs 0 (pos 0)
 summed-none f xs = record { is = refl; low = omega (arith, ints); high = omega (arith, ints) }

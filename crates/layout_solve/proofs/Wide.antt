@@ -2,15 +2,16 @@
 use Rattle.std.proofs.Common.{◌≡◌, ℕ, ◌^◌, ◌<◌, ℤ, pos, negsuc, neg_ℤ, ◌+ℤ◌, ◌-ℤ◌, ◌*ℤ◌, ◌≤ℤ◌, Bool, sym, ap, ◌∙◌, refl, arith, FitsSigned, to_z, of_z, w64}
 use Rattle.std.specs.Int.{w128, int_min, int_max}
 use Rattle.std.proofs.lemmas.Int.{ints, clamps, to_z-of_z}
+use Rattle.slint_base.specs.Numbers.{most_units}
 use Rattle.layout_solve.specs.declared.items.Item.{Item}
-use Rattle.layout_solve.specs.Items.{limit, IsItem, IsWithinLimits}
+use Rattle.layout_solve.specs.Items.{IsItem, IsWithinLimits}
 use Rattle.layout_solve.specs.Sizes.{weight_in, grown, shrunk}
 use Rattle.layout_solve.proofs.ItemSizes.{IsWeight, weight_in-is, gain, grown-is}
 
 -- a number far within 128 bits
 pub record IsHeld (z : ℤ) : Type 0 where
-  pub low : neg_ℤ (pos (2 ^ 120)) ≤ℤ z
-  pub high : z ≤ℤ pos (2 ^ 120)
+  pub low : neg_ℤ (pos (2 ^ 118)) ≤ℤ z
+  pub high : z ≤ℤ pos (2 ^ 118)
 
 pub held_fits : (z : ℤ) → IsHeld z → FitsSigned w128 z
 held_fits (pos n) h = record { sfits = omega (arith, ints, h.high) }

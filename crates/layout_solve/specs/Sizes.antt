@@ -2,10 +2,10 @@
 use Rattle.std.specs.Prelude.{◌≡◌, ℕ, ℤ, pos, ◌+ℤ◌, ◌-ℤ◌, ◌*ℤ◌, ◌≤ℤ◌, ◌<ℤ◌, ◌≤◌, ◌&&◌, Bool, if◌then◌else◌, int_le, IsTrue, IsFalse, List, [], ◌∷◌, map}
 use Rattle.std.specs.Int.{int_min, int_max}
 use Rattle.std.specs.List.{list_all}
+use Rattle.slint_base.specs.Numbers.{most_units}
 use Rattle.layout_solve.specs.declared.items.Item.{Item}
 use Rattle.layout_solve.specs.declared.sizings.Sizing.{Sizing}
 use Rattle.layout_solve.specs.declared.sizings.Sizing.TheVariants.{Least, Preferred, Grown, Shrunk}
-use Rattle.layout_solve.specs.Items.{limit}
 
 -- the exact sum of a list's numbers
 abbrev pub total : List ℤ → ℤ
@@ -51,7 +51,7 @@ are_weightless items = list_all (λ item. int_le item.weight (pos 0)) items
 
 -- the items, each grown by at most the limit's number of weights, fit in the room
 pub record FitsGrown (items : List Item) (room : ℤ) (k : ℕ) : Type 0 where
-  pub within : k ≤ limit
+  pub within : k ≤ most_units
   pub fits : total (map (grown (are_weightless items) k) items) ≤ℤ room
 
 -- the items, each shrunk by k units, fit in the room

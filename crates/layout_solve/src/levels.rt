@@ -10,8 +10,8 @@ use slint_base::LIM;
 pub fn total(items: &[Item], sizing: Sizing) -> i128
     requires { All IsItem items.now }
     ensures sum { result ≡ total (map (size_at sizing) items.now) }
-    ensures low { neg_ℤ (pos (2 ^ 120)) ≤ℤ result }
-    ensures high { result ≤ℤ pos (2 ^ 120) }
+    ensures low { neg_ℤ (pos (2 ^ 118)) ≤ℤ result }
+    ensures high { result ≤ℤ pos (2 ^ 118) }
 {
     let mut sum = 0;
     for item in items {

@@ -5,9 +5,11 @@ mod boxes;
 mod items;
 mod laws;
 mod levels;
+mod places;
 mod sizings;
 
 pub use boxes::solve_box;
 pub use items::{Cell, Item};
 pub use laws::room_is_shared_one_way;
+pub use places::{Align, place};
 pub use sizings::Sizing;
