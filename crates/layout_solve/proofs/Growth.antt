@@ -99,3 +99,6 @@ left-is even by item w g m is short p q r =
     let d = grown_within even by item is short in
     let e = item_max item is in
     omega (arith, ints, clamps, p, q, r, a.some, a.light, b.low, b.high, d.low, d.high, e.low, e.high)
+
+pub item_weight : (item : Item) → IsItem item → IsWithinLimits item.weight
+item_weight item is = record { low = omega (arith, ints, is.weighs); high = omega (arith, ints, is.light) }

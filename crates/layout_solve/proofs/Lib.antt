@@ -1,4 +1,6 @@
 pub mod Bounds
+pub mod FirstTracks
+pub mod Greatest
 pub mod Growth
 pub mod Halving
 pub mod ItemSizes
@@ -6,4 +8,5 @@ pub mod Offsets
 pub mod OneWay
 pub mod Sharing
 pub mod Totals
+pub mod TrackSteps
 pub mod Wide

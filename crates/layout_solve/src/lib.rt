@@ -2,6 +2,7 @@
 #![tactic(auto)]
 
 mod boxes;
+mod grids;
 mod items;
 mod laws;
 mod levels;

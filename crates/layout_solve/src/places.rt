@@ -24,7 +24,7 @@ pub enum Align {
 }
 
 /// An exact number brought into the limits.
-fn saturated(exact: i128) -> i64
+pub fn saturated(exact: i128) -> i64
     ensures { result ≡ sat exact }
 {
     exact.clamp(-i128::from(LIM), i128::from(LIM)) as i64
