@@ -6,7 +6,9 @@ pub mod Halving
 pub mod ItemSizes
 pub mod Offsets
 pub mod OneWay
+pub mod Raising
 pub mod Sharing
 pub mod Totals
 pub mod TrackSteps
 pub mod Wide
+pub mod Widening

@@ -61,7 +61,7 @@ placing_all align sizes room spacing room' spacing' out start i h past e f =
     ∙ ap (λ z. offsets align sizes z spacing') e
     ∙ ap (offsets align sizes room) f
 
-sat_within : (z : ℤ) → IsWithinLimits (sat z)
+pub sat_within : (z : ℤ) → IsWithinLimits (sat z)
 sat_within (pos n) = record { low = omega (arith, ints); high = omega (arith, ints) }
 sat_within (negsuc n) = record { low = omega (arith, ints); high = omega (arith, ints) }
 

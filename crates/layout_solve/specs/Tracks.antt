@@ -56,9 +56,9 @@ track_of (item ∷ items) reached = fold greatest_item item items
 abbrev pub first_track : List Cell → ℕ → Item
 first_track cells track = track_of (items_alone track cells) (list_any (reaches track) cells)
 
--- what a size of a cell lacks: the sizes of its tracks and the spacings between them are less by so much
-abbrev pub lacking : ℤ → ℤ → List ℤ → ℕ → ℤ
-lacking wanted spacing sizes span = int_max (wanted -ℤ (total sizes +ℤ pos (span - 1) *ℤ spacing)) (pos 0)
+-- what a size of a cell lacks: by so much the sizes of its tracks and the spacings between them are less
+abbrev pub lacking : ℤ → List ℤ → ℤ → ℤ
+lacking wanted sizes spacings = int_max (wanted -ℤ (total sizes +ℤ spacings)) (pos 0)
 
 -- a track that gets more least and preferred size: its greatest size is raised to the least, and its preferred one brought between them
 abbrev pub raised_track : ℤ → ℤ → Item → Item
@@ -67,14 +67,19 @@ raised_track more_min more_pref track =
     let most = int_max track.max least in
     record { min = least; pref = int_min (int_max (sat (track.pref +ℤ more_pref)) least) most; max = most; weight = track.weight }
 
--- the tracks after a cell: where it spans several, what its least and its preferred size lack is added to its last track
-abbrev pub widened : ℤ → List Item → Cell → List Item
-widened spacing tracks cell =
+-- the tracks where what a cell's least and preferred size lack is added to its last track
+abbrev pub with_last_raised : ℤ → List Item → Cell → List Item
+with_last_raised spacing tracks cell =
     let own = slice_range tracks cell.first (cell.first + cell.span) in
     let last = cell.first + cell.span - 1 in
-    let more_min = lacking cell.item.min spacing (map (λ track. track.min) own) cell.span in
-    let more_pref = lacking cell.item.pref spacing (map (λ track. track.pref) own) cell.span in
-    if is_spanning cell then slice_set tracks last (raised_track more_min more_pref (slice_index_or tracks last empty_track)) else tracks
+    let spacings = pos (cell.span - 1) *ℤ spacing in
+    let more_min = lacking cell.item.min (map (λ track. track.min) own) spacings in
+    let more_pref = lacking cell.item.pref (map (λ track. track.pref) own) spacings in
+    slice_set tracks last (raised_track more_min more_pref (slice_index_or tracks last empty_track))
+
+-- the tracks after a cell: a spanning one raises its last track
+abbrev pub widened : ℤ → List Item → Cell → List Item
+widened spacing tracks cell = if is_spanning cell then with_last_raised spacing tracks cell else tracks
 
 -- the tracks of n by the cells in text order
 abbrev pub tracks_of : List Cell → ℤ → ℕ → List Item

@@ -10,6 +10,7 @@ mod places;
 mod sizings;
 
 pub use boxes::solve_box;
+pub use grids::grid_tracks;
 pub use items::{Cell, Item};
 pub use laws::room_is_shared_one_way;
 pub use places::{Align, place};
