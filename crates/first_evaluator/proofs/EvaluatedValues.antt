@@ -13,12 +13,12 @@ use Rattle.slint_parser.specs.declared.trees.Factor.{Factor}
 use Rattle.slint_parser.specs.declared.trees.Factor.TheVariants.{Lit, Named}
 use Rattle.slint_parser.specs.declared.trees.FirstProp.{FirstProp}
 use Rattle.slint_parser.specs.declared.trees.FirstFile.{FirstFile}
-use Rattle.slint_meaning.specs.Paths.{onto_all}
+use Rattle.slint_base.specs.Options.{onto_all, all_of}
 use Rattle.slint_meaning.specs.Sources.{are_bound, has_name, is_sum_bound, names_of, reserved_words}
 use Rattle.slint_meaning.specs.Values.{World, opening_world, assign, assignment, factor_value, product_value, sum_value, assigned_or, value_among, property_value}
 use Rattle.first_evaluator.specs.declared.resolving.Operand.{Operand}
 use Rattle.first_evaluator.specs.declared.resolving.Operand.TheVariants.{Literal, Property}
-use Rattle.first_evaluator.specs.Resolved.{place_among, operand_of, all_of, product_of, sum_of, sums_behind, sums_of}
+use Rattle.first_evaluator.specs.Resolved.{place_among, operand_of, product_of, sum_of, sums_behind, sums_of}
 use Rattle.first_evaluator.specs.Evaluated.{IsWithin, operand_value, operands_product, operands_sum, value_at, AreRight}
 use Rattle.first_evaluator.proofs.ResolvedSums.{is_some-sums_behind, place_among_within}
 

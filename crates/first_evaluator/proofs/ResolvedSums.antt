@@ -1,5 +1,5 @@
 -- What the resolver's lists say, over plain variables.
-use Rattle.std.proofs.Common.{◌≡◌, ℕ, suc, String, BTreeMap, string_bytes, nat_cmp, ◌+◌, ◌<◌, ◌≤◌, Bool, true, false, cond, not, ◌&&◌, ◌||◌, IsTrue, nat_le, List, [], ◌∷◌, ◌++◌, length, get_or, take, drop, Option, None, Some, IfSome, MatchOption, is_some, option_map, unwrap_or, pos, sym, ap, ◌∙◌, refl, subst, arith}
+use Rattle.std.proofs.Common.{◌≡◌, ℕ, suc, String, BTreeMap, string_bytes, nat_cmp, ◌+◌, ◌<◌, ◌≤◌, Bool, true, false, cond, not, ◌&&◌, ◌||◌, IsTrue, nat_le, List, [], ◌∷◌, ◌++◌, length, get_or, take, drop, Option, None, Some, Result, Ok, Err, IfSome, MatchOption, is_some, option_map, unwrap_or, pos, sym, ap, ◌∙◌, refl, subst, arith}
 use Rattle.std.specs.List.{list_all, slice_get}
 use Rattle.std.specs.BTreeMap.{get_by_text, UpdatesBy}
 use Rattle.std.specs.String.{string_cmp}
@@ -11,16 +11,20 @@ use Rattle.std.proofs.lemmas.List.{drop_more, drop_all, take_more, take_all, app
 use Rattle.std.proofs.lemmas.List.Sorted.{IsPermutation-reverse, list_any-IsPermutation}
 use Rattle.std.proofs.lemmas.Option.{slice_get-get_or, slice_get_within, get_or_from_slice_get}
 use mathlib.Core.List.{reverse, reverse-cons}
+use Rattle.slint_base.specs.declared.faults.Fault.{Fault}
+use Rattle.slint_base.specs.declared.rules.Rule.TheVariants.{NotBuilt}
 use Rattle.slint_base.specs.Numbers.{greatest_int}
+use Rattle.slint_base.specs.Refusals.{at_start}
+use Rattle.slint_meaning.specs.Runs.{main_file}
 use Rattle.slint_parser.specs.declared.trees.Factor.{Factor}
 use Rattle.slint_parser.specs.declared.trees.Factor.TheVariants.{Lit, Named}
 use Rattle.slint_parser.specs.declared.trees.FirstProp.{FirstProp}
 use Rattle.slint_parser.specs.declared.trees.FirstFile.{FirstFile}
-use Rattle.slint_meaning.specs.Paths.{onto_all}
+use Rattle.slint_base.specs.Options.{onto_all, all_of}
 use Rattle.slint_meaning.specs.Sources.{are_bound, has_name, is_factor_bound, is_sum_bound, names_of, reserved_words}
 use Rattle.first_evaluator.specs.declared.resolving.Operand.{Operand}
 use Rattle.first_evaluator.specs.declared.resolving.Operand.TheVariants.{Literal, Property}
-use Rattle.first_evaluator.specs.Resolved.{place_among, operand_of, all_of, product_of, sum_of, sums_behind, sums_of, names_before, AreAt}
+use Rattle.first_evaluator.specs.Resolved.{place_among, operand_of, product_of, sum_of, sums_behind, sums_of, names_before, resolution, AreAt}
 
 module _ {B : Type 0} where
   -- what is made of all, given what was made of those before
@@ -237,3 +241,14 @@ module _ {Y : Type 0} (props : List FirstProp) (done : List (List (List Operand)
 -- no property is left
 pub sums-end : (props : List FirstProp) (done : List (List (List Operand))) (i : ℕ) → sums_behind [] props ≡ behind_all done (sums_behind (names_before props i) (drop i props)) → length props ≤ i → sums_behind [] props ≡ Some done
 sums-end props done i so_far end = so_far ∙ ap (λ rest. behind_all done (sums_behind (names_before props i) rest)) (drop_all i props end) ∙ ap (λ sums. Some sums) (append-nil done)
+
+-- where the bindings are unsound the tree is refused
+pub resolution-refused : (file : FirstFile) (fault : Fault) → fault ≡ at_start NotBuilt main_file → are_bound [] file.props ≡ false → resolution file ≡ Err fault
+resolution-refused file fault is unbound =
+    let pick : Bool → Result FirstFile Fault = λ b. cond b (Ok file) (Err (at_start NotBuilt main_file)) in
+    let refuse : Fault → Result FirstFile Fault = λ f. Err f in
+    ap pick unbound ∙ ap refuse (sym is)
+
+-- and where they are sound it is not
+pub resolution-sound : (file : FirstFile) → IsTrue (are_bound [] file.props) → resolution file ≡ Ok file
+resolution-sound file bound = let pick : Bool → Result FirstFile Fault = λ b. cond b (Ok file) (Err (at_start NotBuilt main_file)) in ap pick bound

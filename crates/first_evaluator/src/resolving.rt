@@ -1,9 +1,12 @@
 ghost use Rattle.std.specs.Prelude.{◌≡◌, ◌<◌, [], length, false, IsTrue, IfOk, IfSome, MatchOption, Some, slice_get, slice_index_or};
 ghost use Rattle.std.specs.BTreeMap.{get_by_text};
+ghost use Rattle.slint_base.specs.Answers.{Gives};
+ghost use Rattle.slint_base.specs.Refusals.{at_start};
 ghost use Rattle.slint_meaning.specs.Sources.{are_bound, has_name, names_of, reserved_words};
-ghost use Rattle.first_evaluator.specs.Resolved.{operand_of, product_of, sum_of, sums_of};
+ghost use Rattle.first_evaluator.specs.Resolved.{operand_of, product_of, resolution, sum_of, sums_of};
 
-use slint_base::{Memory, Name};
+use slint_base::{End, Fault, Memory, Name, Rule, at_start};
+use slint_meaning::MAIN_FILE;
 use slint_parser::{Factor, FirstFile};
 use sqlite_items::Items;
 use std::alloc::Global;
@@ -107,30 +110,41 @@ impl Model for Component {
     ghost invariant = { λ c. IsResolved c.file c.sums.items c.places };
 }
 
-/// The component of a tree, each factor of which is looked up once; none where the tree breaks a rule: two properties have one name, a
-/// name in a sum is a reserved word or no earlier property's, or a number is no int.
-pub fn resolve(alloc: Global, file: FirstFile) -> Result<Option<Component>, Memory>
-    ensures { IfOk result (λ found. MatchOption found (are_bound [] file.props ≡ false) (λ component. (component ≡ file) × IsTrue (are_bound [] file.props))) }
+/// The fault of a source that is outside the language as far as it is built.
+fn not_built() -> Fault
+    ensures { result ≡ at_start Rule.NotBuilt 0 }
+{
+    at_start(Rule::NotBuilt, MAIN_FILE)
+}
+
+/// The component of a tree, each factor of which is looked up once.
+///
+/// # Errors
+///
+/// `NotBuilt`, at the start of the main file, where the tree breaks a rule: two properties have one name, a name in a sum is a
+/// reserved word or no earlier property's, or a number is no int.
+pub fn resolve(alloc: Global, file: FirstFile) -> Result<Component, End<Fault>>
+    ensures { Gives (λ component. component) result (resolution file) }
 {
     let mut sums = Vec::new(alloc);
     let mut places = Places::new(alloc);
     for prop in file.props.as_slice() {
         if places.contains_key(prop.name.as_str()) {
-            return Ok(None);
+            return Err(End::Fault(not_built()));
         }
         let Some(sum) = resolve_sum(alloc, &places, prop.terms.as_slice())? else {
-            return Ok(None);
+            return Err(End::Fault(not_built()));
         };
         let name = String::from_str(alloc, prop.name.as_str())?;
         places.insert(name, sums.len())?;
         sums.push(sum)?;
     }
-    Ok(Some(Component { file, sums, places }))
+    Ok(Component { file, sums, places })
 }
 
 impl Component {
     /// How many properties there are.
-    pub fn count(&self) -> usize
+    pub(crate) fn count(&self) -> usize
         ensures count { result ≡ length self.now.props }
         ensures bound { IsTrue (are_bound [] self.now.props) }
     {
@@ -138,7 +152,7 @@ impl Component {
     }
 
     /// The place of a property in the order of the text; none where no property has the name.
-    pub fn place_of(&self, name: &Name) -> Option<usize>
+    pub(crate) fn place_of(&self, name: &Name) -> Option<usize>
         ensures found { MatchOption result (has_name (names_of self.now.props) name.now ≡ false) (λ place. slice_get (names_of self.now.props) place ≡ Some name.now) }
         ensures within { IfSome result (λ place. place < length self.now.props) }
     {
@@ -146,7 +160,7 @@ impl Component {
     }
 
     /// The sum that the property at a place is bound to.
-    pub fn sum_at(&self, place: usize) -> &Sum
+    pub(crate) fn sum_at(&self, place: usize) -> &Sum
         requires { place < length self.now.props }
         ensures sum { result.now ≡ slice_index_or (sums_of self.now) place [] }
         ensures bound { IsTrue (are_bound [] self.now.props) }

@@ -1,5 +1,5 @@
 use crate::{Evaluator, resolve};
-use slint_base::{Memory, Name, Span};
+use slint_base::{End, Fault, Memory, Name, Rule, Span};
 use slint_parser::{Factor, FirstFile, FirstProp};
 use sqlite_items::Items;
 use std::alloc::Global;
@@ -9,6 +9,11 @@ const SPAN: Span = Span {
     file: 0,
     start: 0,
     end: 0,
+};
+
+const NOT_BUILT: Fault = Fault {
+    rule: Rule::NotBuilt,
+    span: SPAN,
 };
 
 fn factor(alloc: Global, text: &str) -> Result<Factor, Memory> {
@@ -50,7 +55,7 @@ fn file(alloc: Global, text: &str) -> Result<FirstFile, Memory> {
 }
 
 fn opened(alloc: Global, text: &str) -> Result<Evaluator, Fail> {
-    let component = resolve(alloc, file(alloc, text)?)?.ok_or("refused")?;
+    let component = resolve(alloc, file(alloc, text)?)?;
     Ok(Evaluator::new(alloc, component)?)
 }
 
@@ -112,11 +117,13 @@ fn bindings_are_refused(rt: HostRuntime) -> Result<(), Fail> {
         ("a=1;b=a*1+c", false),
     ];
     for (text, accepted) in cases {
-        assert_eq!(rt;
-            resolve(alloc, file(alloc, text)?)?.is_some(),
-            accepted,
-            "{text}"
-        );
+        let fault = match resolve(alloc, file(alloc, text)?) {
+            Ok(_) => None,
+            Err(End::Fault(fault)) => Some(fault),
+            Err(End::Memory) => return Err(Fail::from(Memory)),
+        };
+        let wanted = if accepted { None } else { Some(NOT_BUILT) };
+        assert_eq!(rt; fault, wanted, "{text}");
     }
     Ok(())
 }

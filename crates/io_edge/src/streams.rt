@@ -1,4 +1,4 @@
-ghost use Rattle.std.specs.Prelude.{◌≡◌, ℕ, ◌≤◌, ◌<◌, List, None, Option, IfOk, OnErr, length, take};
+ghost use Rattle.std.specs.Prelude.{◌≡◌, ℕ, ◌≤◌, ◌<◌, List, None, Option, IfErr, IfOk, OnErr, length, take};
 ghost use Rattle.std.specs.Io.KnownBytes.{Appends, Consumes, IsAtEnd, Keeps, ReadConsumes, WriteAppends};
 ghost use Rattle.io_edge.specs.Counts.{IsQuiet};
 ghost use Rattle.io_edge.specs.Streams.{EndsOnly, SinkCount, SourceCount};
@@ -111,6 +111,8 @@ impl<W: Write> Sink for StreamSink<W> {
         ensures carried { WriteAppends self.old.bytes self.new.bytes result buf.now }
         ensures bound { IfOk result (λ n. n ≤ length buf.now) }
         ensures counted { SinkCount result (length buf.now) self.old.faults self.new.faults }
+        // It takes no memory, so what stops it is a failure, and counted.
+        ensures failed { IfErr result (λ end. end ≡ SinkEnd.Failed) }
     {
         match write_through(&mut self.inner, buf) {
             Ok(count) if count > 0 || buf.is_empty() => Ok(count),

@@ -7,7 +7,7 @@ use Rattle.std.proofs.lemmas.Str.{encode_ascii, NoCharPasses-byte}
 use Rattle.std.proofs.lemmas.Bool.{cases_lt}
 use Rattle.std.proofs.lemmas.Bool.Decides.{nat_tests}
 use Rattle.std.proofs.lemmas.List.{take-append-drop}
-use Rattle.slint_meaning.specs.Lines.{is_blank, after_blanks, word_of, after_word}
+use Rattle.script_lines.specs.Lines.{is_blank, after_blanks, word_of, after_word}
 use Rattle.script_lines.proofs.Trims.{blank_set, blank_small}
 
 -- no byte is a blank

@@ -5,8 +5,9 @@ use Rattle.std.specs.Option.{option_map}
 use Rattle.std.proofs.lemmas.Bool.{ne_eqb}
 use Rattle.std.proofs.lemmas.List.Splits.{slice_split_first}
 use Rattle.slint_base.specs.Names.{normal_name}
-use Rattle.slint_meaning.specs.declared.commands.PathStep.{PathStep}
-use Rattle.slint_meaning.specs.Paths.{step_of, steps_of, onto_all, is_path_name, path_from, path_of}
+use Rattle.slint_base.specs.Options.{onto_all}
+use Rattle.script_lines.specs.declared.commands.PathStep.{PathStep}
+use Rattle.script_lines.specs.Paths.{step_of, steps_of, is_path_name, path_from, path_of}
 
 -- steps with one more behind them
 abbrev with_step : Option (List PathStep) → Option PathStep → Option (List PathStep)

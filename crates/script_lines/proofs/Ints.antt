@@ -7,7 +7,7 @@ use Rattle.std.specs.Str.Parse.{ParsesSigned, digits_value}
 use Rattle.std.proofs.lemmas.Str.Parse.{IsNumeralModel, IsDigitsTest, numerals_by_value, parse_signed_plain, parse_signed_minus}
 use Rattle.std.proofs.lemmas.Bool.{eqb-true, eqb-false}
 use Rattle.std.proofs.lemmas.Bool.Decides.{nat_tests}
-use Rattle.slint_meaning.specs.Commands.{int_reading, digits_reading}
+use Rattle.script_lines.specs.Ints.{int_reading, digits_reading}
 use mir.Syntax.{w32}
 
 -- digits, tested one by one

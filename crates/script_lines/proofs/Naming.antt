@@ -6,7 +6,7 @@ use Rattle.std.specs.Str.{IsUtf8, chars}
 use Rattle.std.proofs.lemmas.Str.{chars_past_char}
 use Rattle.std.proofs.lemmas.Bool.{eq-eqb}
 use Rattle.unicode_ident.specs.Ident.{is_xid_start, is_xid_continue}
-use Rattle.slint_meaning.specs.Paths.{is_path_name, are_name_chars}
+use Rattle.script_lines.specs.Paths.{is_path_name, are_name_chars}
 
 -- a character that may go on in a name
 abbrev pub goes_on : ℕ → Bool

@@ -3,7 +3,7 @@ use Rattle.std.proofs.Common.{◌≡◌, ◌==◌, ℕ, ◌+◌, ◌-◌, Bool, 
 use Rattle.std.specs.Cmp.Lexicographic.{pointwise}
 use Rattle.std.specs.Option.{unwrap_or}
 use Rattle.std.proofs.lemmas.List.{take_at, drop_at}
-use Rattle.slint_meaning.specs.Lines.{without_return}
+use Rattle.script_lines.specs.Lines.{without_return}
 use Rattle.script_lines.proofs.Trims.{snoc}
 
 without_return-push : (front : List ℕ) (b : ℕ) → without_return (front ++ b ∷ []) ≡ cond (b == 13) front (front ++ b ∷ [])

@@ -7,7 +7,7 @@ use Rattle.std.specs.Result.{result_ok}
 use Rattle.std.specs.Str.Parse.{ParsesUnsigned}
 use Rattle.std.proofs.lemmas.Str.Parse.{parse_digits, digits_value_short}
 use Rattle.std.proofs.lemmas.Bool.{ne_eqb}
-use Rattle.slint_meaning.specs.Paths.{row_number, before_close, bracketed, before_bracket, from_bracket, row_of}
+use Rattle.script_lines.specs.Paths.{row_number, before_close, bracketed, before_bracket, from_bracket, row_of}
 use Rattle.script_lines.proofs.Ints.{digits_model}
 
 pub row_number-parse : {E : Type 0} (ds : List ℕ) (r : Result ℕ E) → ParsesUnsigned 32 10 ds r → length ds ≤ 9 → list_all is_ascii_digit ds ≡ true → result_ok r ≡ row_number ds

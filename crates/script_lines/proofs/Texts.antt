@@ -2,10 +2,10 @@
 use Rattle.std.proofs.Common.{◌≡◌, ℕ, ◌≤◌, Bool, true, false, List, length, Option, Result, Err, refl, ap, ◌∙◌, rules, tests, nat_lt, cond}
 use Rattle.std.specs.Str.{IsUtf8, is_utf8}
 use Rattle.std.proofs.lemmas.Str.{IsUtf8-from_is_utf8, is_utf8-from_IsUtf8}
-use Rattle.slint_meaning.specs.declared.commands.Command.{Command}
-use Rattle.slint_meaning.specs.declared.commands.BadLine.{BadLine}
-use Rattle.slint_meaning.specs.declared.commands.BadLine.TheVariants.{Unread}
-use Rattle.slint_meaning.specs.Lines.{read_text, read_words, trimmed, is_passed_over, most_line}
+use Rattle.script_lines.specs.declared.commands.Command.{Command}
+use Rattle.script_lines.specs.declared.commands.BadLine.{BadLine}
+use Rattle.script_lines.specs.declared.commands.BadLine.TheVariants.{Unread}
+use Rattle.script_lines.specs.Lines.{read_text, read_words, trimmed, is_passed_over, most_line}
 
 not_long : (n : ℕ) → n ≤ 4096 → nat_lt 4096 n ≡ false
 not_long n h = search (rules, tests)

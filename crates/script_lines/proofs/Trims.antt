@@ -11,7 +11,7 @@ use Rattle.std.proofs.Math.Seq.{drop-length}
 use Rattle.std.proofs.lemmas.List.{take-append-drop}
 use Rattle.std.proofs.lemmas.Bool.{false≢true}
 use Rattle.std.proofs.lemmas.Bool.Decides.{nat_tests}
-use Rattle.slint_meaning.specs.Lines.{is_blank, after_blanks, without_end_blanks}
+use Rattle.script_lines.specs.Lines.{is_blank, after_blanks, without_end_blanks}
 
 -- the pattern of blanks is the test of a blank
 pub blank_set : (c : ℕ) → char_set_contains (32 ∷ 9 ∷ []) c ≡ is_blank c

@@ -1,2 +1,3 @@
-pub use Rattle.slint_meaning.specs.Lines
-pub use Rattle.slint_meaning.specs.Paths
+pub mod Ints
+pub mod Lines
+pub mod Paths

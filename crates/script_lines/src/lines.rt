@@ -1,10 +1,10 @@
 ghost use Rattle.slint_base.specs.Answers.{Gives};
-ghost use Rattle.slint_meaning.specs.Lines.{line_reading, read_text, read_words, read_get, read_set};
+ghost use Rattle.script_lines.specs.Lines.{line_reading, read_text, read_words, read_get, read_set};
 
 use crate::paths::read_path;
 use crate::words::{is_passed_over, split_word, trimmed};
 use slint_base::{End, Text};
-use slint_meaning::{BadLine, Command};
+use crate::{BadLine, Command};
 use std::alloc::Global;
 
 /// The most bytes that a line has, without its end.

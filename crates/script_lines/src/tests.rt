@@ -1,6 +1,5 @@
-use crate::{read_int, read_line};
 use slint_base::{End, Memory};
-use slint_meaning::{BadLine, Command, Path};
+use crate::{BadLine, Command, Path, read_int, read_line};
 use std::alloc::Global;
 use std::test::Fail;
 

@@ -1,5 +1,5 @@
 ghost use Rattle.std.specs.Prelude.{◌≡◌};
-ghost use Rattle.slint_meaning.specs.Lines.{is_blank, is_passed_over, trimmed, word_of, after_word};
+ghost use Rattle.script_lines.specs.Lines.{is_blank, is_passed_over, trimmed, word_of, after_word};
 
 /// What parts words. A carriage return or a wider space is no blank.
 const BLANKS: [char; 2] = [' ', '\t'];

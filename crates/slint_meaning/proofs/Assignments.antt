@@ -10,14 +10,15 @@ use Rattle.std.proofs.lemmas.List.Folds.{list_any-append}
 use Rattle.std.proofs.lemmas.Slice.Eq.{bytes_eq-Decides}
 use Rattle.slint_parser.specs.declared.trees.FirstFile.{FirstFile}
 use Rattle.slint_parser.specs.declared.trees.FirstProp.{FirstProp}
-use Rattle.slint_meaning.specs.declared.commands.Command.{Command}
-use Rattle.slint_meaning.specs.declared.commands.Command.TheVariants.{Get, Set}
-use Rattle.slint_meaning.specs.declared.commands.BadLine.{BadLine}
-use Rattle.slint_meaning.specs.declared.commands.BadLine.TheVariants as bad
-use Rattle.slint_meaning.specs.declared.commands.PathStep.{PathStep}
-use Rattle.slint_meaning.specs.Commands.{Target, nothing, root, property, target_of, int_reading, value_reply, does_get, does_assign, does_set, does_command, does_reading, does_line}
+use Rattle.script_lines.specs.declared.commands.Command.{Command}
+use Rattle.script_lines.specs.declared.commands.Command.TheVariants.{Get, Set}
+use Rattle.script_lines.specs.declared.commands.BadLine.{BadLine}
+use Rattle.script_lines.specs.declared.commands.BadLine.TheVariants as bad
+use Rattle.script_lines.specs.declared.commands.PathStep.{PathStep}
+use Rattle.script_lines.specs.Ints.{int_reading}
+use Rattle.slint_meaning.specs.Commands.{Target, nothing, root, property, target_of, value_reply, does_get, does_assign, does_set, does_command, does_reading, does_line}
 use Rattle.slint_meaning.specs.Laws.{turn_answer, turn_world, answer_of, world_after, Sets, Gets, SetsNot}
-use Rattle.slint_meaning.specs.Lines.{line_reading}
+use Rattle.script_lines.specs.Lines.{line_reading}
 use Rattle.slint_meaning.specs.Sources.{has_name, names_of}
 use Rattle.slint_meaning.specs.Values.{World, assign, assigned_or, assignment, latest, value_among, sum_value}
 

@@ -1,14 +1,15 @@
 -- A run has one outcome.
 use Rattle.std.proofs.Common.{◌≡◌, ℕ, ◌<◌, ◌≤◌, true, false, List, [], length, Option, Some, None, refl, sym, ap, ◌∙◌, subst, arith, inl, inr}
-use Rattle.std.specs.Prelude.{◌⊎◌}
+use Rattle.std.specs.Prelude.{◌⊎◌, unwrap_or}
 use Rattle.std.proofs.lemmas.Bool.{cases_lt, cases_Bool}
 use Rattle.slint_base.specs.declared.rules.Rule.TheVariants.{FileMissing, NotBuilt}
+use Rattle.slint_base.specs.Refusals.{at_start}
 use Rattle.io_edge.specs.Files.{FileList, bytes_named}
 use Rattle.slint_lexer.specs.declared.tokens.Token.{Token}
 use Rattle.slint_lexer.specs.Tokens.{Lexes, NoTokens}
 use Rattle.slint_parser.specs.declared.trees.FirstFile.{FirstFile}
 use Rattle.slint_parser.specs.Grammar.{DerivesFile, NoTree}
-use Rattle.slint_meaning.specs.Runs.{Outcome, Verdict, accepted, rejected, HasVerdict, run_verdict, unreadable, RunsFile, Runs, file_word}
+use Rattle.slint_meaning.specs.Runs.{Outcome, Verdict, accepted, rejected, main_file, HasVerdict, run_verdict, unreadable, RunsFile, Runs, file_word}
 use Rattle.slint_meaning.specs.Sources.{IsSource, NoSource, are_bound, most_bytes}
 
 -- what the crates below know of tokens and trees
@@ -34,16 +35,16 @@ one_source reading tree bytes a b s t =
 one_verdict : OneReading → OneTree → (bytes : Option (List ℕ)) (a b : Verdict) → HasVerdict bytes a → HasVerdict bytes b → a ≡ b
 one_verdict reading tree None (accepted a) b h g = absurd h
 one_verdict reading tree None (rejected a) (accepted b) h g = absurd g
-one_verdict reading tree None (rejected a) (rejected b) h g = ap (λ rule. rejected rule) (h ∙ sym g)
+one_verdict reading tree None (rejected a) (rejected b) h g = ap (λ fault. rejected fault) (h ∙ sym g)
 one_verdict reading tree (Some bytes) (accepted a) (accepted b) h g = ap (λ file. accepted file) (one_source reading tree bytes a b h g)
 one_verdict reading tree (Some bytes) (accepted a) (rejected b) h g = absurd (g.1 a h)
 one_verdict reading tree (Some bytes) (rejected a) (accepted b) h g = absurd (h.1 b g)
-one_verdict reading tree (Some bytes) (rejected a) (rejected b) h g = ap (λ rule. rejected rule) (h.0 ∙ sym g.0)
+one_verdict reading tree (Some bytes) (rejected a) (rejected b) h g = ap (λ fault. rejected fault) (h.0 ∙ sym g.0)
 
 one_of_file : OneReading → OneTree → (name : Option (List ℕ)) (files : FileList) (script : List ℕ) (a b : Outcome) → RunsFile name files script a → RunsFile name files script b → a ≡ b
 one_of_file reading tree None files script a b h g = h ∙ sym g
 one_of_file reading tree (Some name) files script a b h g =
-    h.2 ∙ ap (λ verdict. run_verdict name verdict script) (one_verdict reading tree (bytes_named files name) h.0 g.0 h.1 g.1) ∙ sym g.2
+    h.2 ∙ ap (λ verdict. run_verdict name (unwrap_or (bytes_named files name) []) verdict script) (one_verdict reading tree (bytes_named files name) h.0 g.0 h.1 g.1) ∙ sym g.2
 
 -- a run has at most one outcome
 pub same_outcome : OneReading → OneTree → (ws : List (List ℕ)) (files : FileList) (script : List ℕ) (a b : Outcome) → Runs ws files script a → Runs ws files script b → a ≡ b
@@ -86,18 +87,18 @@ by_length reading tree lexings trees bytes (inr short) = by_tokens reading tree 
 -- the verdict on bytes
 verdict_of : (bytes : List ℕ) → SourceOrNone bytes → (verdict : Verdict) × HasVerdict (Some bytes) verdict
 verdict_of bytes (inl some) = (accepted some.0, some.1)
-verdict_of bytes (inr none) = (rejected NotBuilt, (refl, none))
+verdict_of bytes (inr none) = (rejected (at_start NotBuilt main_file), (refl, none))
 
 -- each source has a verdict
 some_verdict : OneReading → OneTree → TokensOrNone → TreeOrNone → (bytes : Option (List ℕ)) → (verdict : Verdict) × HasVerdict bytes verdict
-some_verdict reading tree lexings trees None = (rejected FileMissing, refl)
+some_verdict reading tree lexings trees None = (rejected (at_start FileMissing main_file), refl)
 some_verdict reading tree lexings trees (Some bytes) = verdict_of bytes (by_length reading tree lexings trees bytes (cases_lt most_bytes (length bytes)))
 
 some_of_file : OneReading → OneTree → TokensOrNone → TreeOrNone → (name : Option (List ℕ)) (files : FileList) (script : List ℕ) → (outcome : Outcome) × RunsFile name files script outcome
 some_of_file reading tree lexings trees None files script = (unreadable, refl)
 some_of_file reading tree lexings trees (Some name) files script =
     let found = some_verdict reading tree lexings trees (bytes_named files name) in
-    (run_verdict name found.0 script, (found.0, found.1, refl))
+    (run_verdict name (unwrap_or (bytes_named files name) []) found.0 script, (found.0, found.1, refl))
 
 -- a run has at least one outcome
 pub has_outcome : OneReading → OneTree → TokensOrNone → TreeOrNone → (ws : List (List ℕ)) (files : FileList) (script : List ℕ) → (outcome : Outcome) × Runs ws files script outcome

@@ -1,14 +1,15 @@
 -- How lines follow one another: none halts, and a refused one leaves the world.
 use Rattle.std.proofs.Common.{◌≡◌, ℕ, ℤ, List, [], ◌∷◌, ◌++◌, Option, Some, None, Result, Ok, Err, refl, sym, ap, ◌∙◌, append_assoc}
 use Rattle.slint_parser.specs.declared.trees.FirstFile.{FirstFile}
-use Rattle.slint_meaning.specs.declared.commands.Command.{Command}
-use Rattle.slint_meaning.specs.declared.commands.Command.TheVariants.{Get, Set}
-use Rattle.slint_meaning.specs.declared.commands.BadLine.{BadLine}
-use Rattle.slint_meaning.specs.declared.commands.BadLine.TheVariants as bad
-use Rattle.slint_meaning.specs.declared.commands.LineRefusal.{LineRefusal}
-use Rattle.slint_meaning.specs.Commands.{Turn, goes_on, Target, nothing, root, property, target_of, int_reading, refusal_reply, does_get, does_assign, does_set, does_command, does_reading, does_line}
+use Rattle.script_lines.specs.declared.commands.Command.{Command}
+use Rattle.script_lines.specs.declared.commands.Command.TheVariants.{Get, Set}
+use Rattle.script_lines.specs.declared.commands.BadLine.{BadLine}
+use Rattle.script_lines.specs.declared.commands.BadLine.TheVariants as bad
+use Rattle.slint_meaning.specs.declared.refusals.LineRefusal.{LineRefusal}
+use Rattle.script_lines.specs.Ints.{int_reading}
+use Rattle.slint_meaning.specs.Commands.{Turn, goes_on, Target, nothing, root, property, target_of, refusal_reply, does_get, does_assign, does_set, does_command, does_reading, does_line}
 use Rattle.slint_meaning.specs.Laws.{turn_answer, turn_world, answer_of, world_after, answers}
-use Rattle.slint_meaning.specs.Lines.{line_reading}
+use Rattle.script_lines.specs.Lines.{line_reading}
 use Rattle.slint_meaning.specs.Runs.{Outcome, behind, after_turn, run_lines}
 use Rattle.slint_meaning.specs.Values.{World}
 

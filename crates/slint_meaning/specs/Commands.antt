@@ -1,20 +1,18 @@
 -- What each line of a script answers, and the world after it.
-use Rattle.std.specs.Prelude.{ℕ, ℤ, pos, neg_ℤ, List, [], ◌∷◌, ◌++◌, drop, ◌==◌, ◌&&◌, nat_le, is_none, if◌then◌else◌, codes, Option, None, Some, Result, Ok, Err, slice_index}
+use Rattle.std.specs.Prelude.{ℕ, ℤ, List, [], ◌∷◌, ◌++◌, ◌&&◌, is_none, if◌then◌else◌, codes, Option, None, Some, Result, Ok, Err}
 use Rattle.std.specs.Fmt.{decimal, signed_decimal}
 use Rattle.std.specs.Str.{bytes_eq}
-use Rattle.std.specs.Str.Parse.{digits_value}
-use Rattle.slint_base.specs.Numbers.{greatest_int}
-use Rattle.slint_lexer.specs.Bytes.{is_number}
 use Rattle.slint_parser.specs.declared.trees.FirstFile.{FirstFile}
-use Rattle.slint_meaning.specs.declared.commands.PathStep.{PathStep}
-use Rattle.slint_meaning.specs.declared.commands.Command.{Command}
-use Rattle.slint_meaning.specs.declared.commands.Command.TheVariants.{Get, Set}
-use Rattle.slint_meaning.specs.declared.commands.BadLine.{BadLine}
-use Rattle.slint_meaning.specs.declared.commands.BadLine.TheVariants as bad
-use Rattle.slint_meaning.specs.declared.commands.Ending.{Ending}
-use Rattle.slint_meaning.specs.declared.commands.LineRefusal.{LineRefusal}
-use Rattle.slint_meaning.specs.declared.commands.LineRefusal.TheVariants as refusals
-use Rattle.slint_meaning.specs.Lines.{line_reading}
+use Rattle.script_lines.specs.declared.commands.PathStep.{PathStep}
+use Rattle.script_lines.specs.declared.commands.Command.{Command}
+use Rattle.script_lines.specs.declared.commands.Command.TheVariants.{Get, Set}
+use Rattle.script_lines.specs.declared.commands.BadLine.{BadLine}
+use Rattle.script_lines.specs.declared.commands.BadLine.TheVariants as bad
+use Rattle.slint_meaning.specs.declared.endings.Ending.{Ending}
+use Rattle.slint_meaning.specs.declared.refusals.LineRefusal.{LineRefusal}
+use Rattle.slint_meaning.specs.declared.refusals.LineRefusal.TheVariants as refusals
+use Rattle.script_lines.specs.Ints.{int_reading}
+use Rattle.script_lines.specs.Lines.{line_reading}
 use Rattle.slint_meaning.specs.Refusals.{refusal_number}
 use Rattle.slint_meaning.specs.Sources.{has_name, names_of}
 use Rattle.slint_meaning.specs.Values.{World, assign, property_value}
@@ -57,19 +55,6 @@ target_of file (first ∷ []) = if bytes_eq first.name (codes "root") then root 
 target_of file (first ∷ second ∷ []) =
     if bytes_eq first.name (codes "root") && (is_none second.row && has_name (names_of file.props) second.name) then property second.name else nothing
 target_of file (first ∷ second ∷ third ∷ others) = nothing
-
--- a number at most this, where it is one
-abbrev pub up_to : ℕ → (ℕ → ℤ) → ℕ → Option ℤ
-up_to most signed n = if nat_le n most then Some (signed n) else None
-
--- the digits of a value, with its sign
-abbrev pub digits_reading : ℕ → (ℕ → ℤ) → List ℕ → Option ℤ
-digits_reading most signed digits = if is_number digits then up_to most signed (digits_value 10 digits) else None
-
--- a text read as an int: an optional `-` and digits, between the ends of the type
-abbrev pub int_reading : List ℕ → Option ℤ
-int_reading text =
-    if slice_index text 0 == 45 then digits_reading 2147483648 (λ n. neg_ℤ (pos n)) (drop 1 text) else digits_reading greatest_int pos text
 
 -- `get`: the value, evaluated afresh
 abbrev pub does_get : FirstFile → World → Target → Turn

@@ -1,10 +1,11 @@
 -- What the laws speak of: the answers of lines, the world after them, and lines that assign or ask for a property.
 use Rattle.std.specs.Prelude.{◌≡◌, ℕ, ℤ, List, [], ◌∷◌, ◌++◌, Some, Ok}
 use Rattle.slint_parser.specs.declared.trees.FirstFile.{FirstFile}
-use Rattle.slint_meaning.specs.declared.commands.PathStep.{PathStep}
-use Rattle.slint_meaning.specs.declared.commands.Command.TheVariants.{Get, Set}
-use Rattle.slint_meaning.specs.Commands.{Turn, goes_on, halts, does_line, property, target_of, int_reading}
-use Rattle.slint_meaning.specs.Lines.{line_reading}
+use Rattle.script_lines.specs.declared.commands.PathStep.{PathStep}
+use Rattle.script_lines.specs.declared.commands.Command.TheVariants.{Get, Set}
+use Rattle.script_lines.specs.Ints.{int_reading}
+use Rattle.slint_meaning.specs.Commands.{Turn, goes_on, halts, does_line, property, target_of}
+use Rattle.script_lines.specs.Lines.{line_reading}
 use Rattle.slint_meaning.specs.Values.{World}
 
 -- what a turn answers

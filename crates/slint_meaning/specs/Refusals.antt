@@ -1,7 +1,7 @@
 -- The numbers by which refused lines are answered.
 use Rattle.std.specs.Prelude.{ℕ}
-use Rattle.slint_meaning.specs.declared.commands.LineRefusal.{LineRefusal}
-use Rattle.slint_meaning.specs.declared.commands.LineRefusal.TheVariants.{BadLine, UnknownPath, WrongKind, BadValue, LineTooLong}
+use Rattle.slint_meaning.specs.declared.refusals.LineRefusal.{LineRefusal}
+use Rattle.slint_meaning.specs.declared.refusals.LineRefusal.TheVariants.{BadLine, UnknownPath, WrongKind, BadValue, LineTooLong}
 
 -- the number of each cause
 abbrev pub refusal_number : LineRefusal → ℕ

@@ -1,15 +1,14 @@
 -- What a whole run writes and how it ends: a function of its words, the files and the script.
-use Rattle.std.specs.Prelude.{◌≡◌, ℕ, List, [], ◌∷◌, ◌++◌, take, length, ◌==◌, nat_le, if◌then◌else◌, codes, Option, None, Some, slice_index}
-use Rattle.std.specs.Fmt.{decimal}
-use Rattle.slint_base.specs.declared.rules.Rule.{Rule}
+use Rattle.std.specs.Prelude.{◌≡◌, ℕ, List, [], ◌∷◌, ◌++◌, take, length, ◌==◌, nat_le, if◌then◌else◌, codes, Option, None, Some, unwrap_or, slice_index}
+use Rattle.slint_base.specs.declared.faults.Fault.{Fault}
 use Rattle.slint_base.specs.declared.rules.Rule.TheVariants.{FileMissing, NotBuilt}
-use Rattle.slint_base.specs.Rules.{rule_number}
+use Rattle.slint_base.specs.Refusals.{at_start, refusal_line, refusal_of}
 use Rattle.io_edge.specs.Files.{FileList, bytes_named}
 use Rattle.slint_parser.specs.declared.trees.FirstFile.{FirstFile}
-use Rattle.slint_meaning.specs.declared.commands.Ending.{Ending}
-use Rattle.slint_meaning.specs.declared.commands.Ending.TheVariants.{Done, Words, Refused, ScriptLong}
+use Rattle.slint_meaning.specs.declared.endings.Ending.{Ending}
+use Rattle.slint_meaning.specs.declared.endings.Ending.TheVariants.{Done, Words, Refused, ScriptLong}
 use Rattle.slint_meaning.specs.Commands.{Turn, goes_on, halts, written, does_line}
-use Rattle.slint_meaning.specs.Lines.{lines_of, whole_lines}
+use Rattle.script_lines.specs.Lines.{lines_of, whole_lines}
 use Rattle.slint_meaning.specs.Sources.{IsSource, NoSource}
 use Rattle.slint_meaning.specs.Values.{World, opening_world}
 
@@ -51,26 +50,30 @@ run_script file script =
     then run_lines file opening_world (lines_of script) ended
     else run_lines file opening_world (whole_lines (take most_script script)) cut_off
 
--- whether a source is accepted
+-- whether a source is accepted, or the fault for which it is refused: a rule, and the stretch of a file that breaks it
 pub data Verdict : Type 0 where
   accepted : FirstFile → Verdict
-  rejected : Rule → Verdict
+  rejected : Fault → Verdict
 
--- the verdict on the main file, given its bytes where there is such a file
+-- the main file's number
+abbrev pub main_file : ℕ
+main_file = 0
+
+-- the verdict on the main file, given its bytes where there is such a file; both rules are broken by the file as a whole
 abbrev pub HasVerdict : Option (List ℕ) → Verdict → Type 0
 HasVerdict None (accepted file) = ⊥
-HasVerdict None (rejected rule) = rule ≡ FileMissing
+HasVerdict None (rejected fault) = fault ≡ at_start FileMissing main_file
 HasVerdict (Some bytes) (accepted file) = IsSource bytes file
-HasVerdict (Some bytes) (rejected rule) = (rule ≡ NotBuilt) × NoSource bytes
+HasVerdict (Some bytes) (rejected fault) = (fault ≡ at_start NotBuilt main_file) × NoSource bytes
 
--- the line of a rejected source; both rules stand at the start of the file
-abbrev pub verdict_line : List ℕ → Rule → List ℕ
-verdict_line name rule = written (codes "refused " ++ decimal (rule_number rule) ++ codes " " ++ name ++ codes " 1:1-1:1")
+-- the line of a source that is refused for a fault in a file of this name and these bytes
+abbrev pub verdict_line : List ℕ → List ℕ → Fault → List ℕ
+verdict_line name bytes fault = written (refusal_line (refusal_of name bytes fault))
 
--- a run whose main file has this name and verdict
-abbrev pub run_verdict : List ℕ → Verdict → List ℕ → Outcome
-run_verdict name (accepted file) script = run_script file script
-run_verdict name (rejected rule) script = record { end = Refused; bytes = verdict_line name rule }
+-- a run whose main file has this name, these bytes and this verdict
+abbrev pub run_verdict : List ℕ → List ℕ → Verdict → List ℕ → Outcome
+run_verdict name bytes (accepted file) script = run_script file script
+run_verdict name bytes (rejected fault) script = record { end = Refused; bytes = verdict_line name bytes fault }
 
 -- the main file's name: the words are the program's name and that name, which doesn't begin with a dash
 abbrev pub file_word : List (List ℕ) → Option (List ℕ)
@@ -87,7 +90,7 @@ unreadable = record { end = Words; bytes = written (codes "words") }
 abbrev pub RunsFile : Option (List ℕ) → FileList → List ℕ → Outcome → Type 0
 RunsFile None files script outcome = outcome ≡ unreadable
 RunsFile (Some name) files script outcome =
-    (verdict : Verdict) × HasVerdict (bytes_named files name) verdict × (outcome ≡ run_verdict name verdict script)
+    (verdict : Verdict) × HasVerdict (bytes_named files name) verdict × (outcome ≡ run_verdict name (unwrap_or (bytes_named files name) []) verdict script)
 
 -- this is the outcome of the words over files and script
 abbrev pub Runs : List (List ℕ) → FileList → List ℕ → Outcome → Type 0

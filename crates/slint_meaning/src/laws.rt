@@ -1,7 +1,7 @@
 ghost use Rattle.std.specs.Prelude.{◌≡◌, ℕ, ℤ, List, [], ◌∷◌, ◌++◌, All};
 ghost use Rattle.slint_parser.specs.declared.trees.FirstFile.{FirstFile};
 ghost use Rattle.io_edge.specs.Files.{FileList};
-ghost use Rattle.slint_meaning.specs.declared.commands.LineRefusal.{LineRefusal as Refusal};
+ghost use Rattle.slint_meaning.specs.declared.refusals.LineRefusal.{LineRefusal as Refusal};
 ghost use Rattle.slint_meaning.specs.Commands.{refusal_reply, value_reply};
 ghost use Rattle.slint_meaning.specs.Laws.{answer_of, world_after, answers, Sets, Gets, SetsNot};
 ghost use Rattle.slint_meaning.specs.Runs.{Outcome, behind, run_lines, Runs};

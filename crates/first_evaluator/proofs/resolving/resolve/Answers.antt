@@ -1,21 +1,23 @@
-use Rattle.std.proofs.Common.{◌+◌, length, string_bytes, ap, ◌∙◌, refl, arith}
+use Rattle.std.proofs.Common.{◌+◌, length, string_bytes, ap, ◌∙◌, arith}
 use Rattle.std.specs.BTreeMap.{get_by_text}
 use Rattle.std.proofs.lemmas.List.{length_push}
 use Rattle.first_evaluator.specs.Resolved.{sum_of}
-use Rattle.first_evaluator.proofs.ResolvedSums.{AreAt-more, bound_from_sums, refused_twice, refused_sum, sums-more, sums-end}
+use Rattle.first_evaluator.proofs.ResolvedSums.{AreAt-more, bound_from_sums, refused_twice, refused_sum, resolution-refused, resolution-sound, sums-more, sums-end}
 use Rattle.first_evaluator.proofs.resolving.resolve.Goals as goal
 
 pub returns-then-contains_key : goal.returns-then-contains_key
 returns-then-contains_key c =
     let l = c.loop-prop in
-    rw (← c.as_slice-prop-items.ensures) (refused_twice c.as_slice-prop-items.result.now l.sums.items l.places l.prop-index c.prop-item.result l.invariant.sums l.invariant.at (omega arith) c.prop-item.is
-    c.as_str.result.now c.contains_key.result c.as_str.ensures c.contains_key.ensures c.if-contains_key.true)
+    resolution-refused c.args.file c.not_built.result c.not_built.ensures
+    (rw (← c.as_slice-prop-items.ensures) (refused_twice c.as_slice-prop-items.result.now l.sums.items l.places l.prop-index c.prop-item.result l.invariant.sums l.invariant.at (omega arith) c.prop-item.is
+    c.as_str.result.now c.contains_key.result c.as_str.ensures c.contains_key.ensures c.if-contains_key.true))
 
 pub returns-in_default : goal.returns-in_default
 returns-in_default c =
     let l = c.loop-prop in
-    rw (← c.as_slice-prop-items.ensures) (refused_sum c.as_slice-prop-items.result.now l.sums.items l.places l.prop-index c.prop-item.result l.invariant.sums l.invariant.at (omega arith) c.prop-item.is
-    c.in_ok-sum.field-0 (c.in_ok-sum.ensures ∙ ap (sum_of (λ name. get_by_text l.places name)) c.as_slice.ensures) c.in_default.is)
+    resolution-refused c.args.file c.not_built-in_default.result c.not_built-in_default.ensures
+    (rw (← c.as_slice-prop-items.ensures) (refused_sum c.as_slice-prop-items.result.now l.sums.items l.places l.prop-index c.prop-item.result l.invariant.sums l.invariant.at (omega arith) c.prop-item.is
+    c.in_ok-sum.field-0 (c.in_ok-sum.ensures ∙ ap (sum_of (λ name. get_by_text l.places name)) c.as_slice.ensures) c.in_default.is))
 
 pub loop-prop-preserved : goal.loop-prop-preserved
 loop-prop-preserved c =
@@ -32,4 +34,5 @@ loop-prop-preserved c =
 pub returns : goal.returns
 returns c =
     let l = c.loop-prop in
-    (refl, rw (← c.as_slice-prop-items.ensures) (bound_from_sums c.as_slice-prop-items.result.now l.sums.items (sums-end c.as_slice-prop-items.result.now l.sums.items l.prop-index l.invariant.sums (omega arith))))
+    resolution-sound c.args.file
+    (rw (← c.as_slice-prop-items.ensures) (bound_from_sums c.as_slice-prop-items.result.now l.sums.items (sums-end c.as_slice-prop-items.result.now l.sums.items l.prop-index l.invariant.sums (omega arith))))

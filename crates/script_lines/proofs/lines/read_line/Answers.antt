@@ -1,8 +1,8 @@
 use Rattle.std.proofs.Common.{◌∙◌, ap, subst, Option, Result}
 use Rattle.slint_base.specs.Answers.{Gives}
-use Rattle.slint_meaning.specs.declared.commands.Command.{Command}
-use Rattle.slint_meaning.specs.declared.commands.BadLine.{BadLine}
-use Rattle.slint_meaning.specs.Lines.{read_text}
+use Rattle.script_lines.specs.declared.commands.Command.{Command}
+use Rattle.script_lines.specs.declared.commands.BadLine.{BadLine}
+use Rattle.script_lines.specs.Lines.{read_text}
 use Rattle.script_lines.proofs.Returns.{without_return-strip}
 use Rattle.script_lines.proofs.lines.read_line.Goals as goal
 

@@ -2,7 +2,7 @@ use Rattle.std.proofs.Common.{◌≡◌, ◌∷◌, [], ◌∙◌, sym, ap, map,
 use Rattle.std.proofs.lemmas.List.{map-append}
 use Rattle.std.proofs.lemmas.Iterator.Consumers.{YieldsList-at, YieldsList-turn, YieldsList-end}
 use Rattle.std.proofs.lemmas.Iterator.Splits.{YieldsList-from_str_split}
-use Rattle.slint_meaning.specs.Paths.{step_of}
+use Rattle.script_lines.specs.Paths.{step_of}
 use Rattle.script_lines.proofs.Following.{longer, longer-push, longer-none}
 use Rattle.script_lines.proofs.paths.continue_path.Goals as goal
 

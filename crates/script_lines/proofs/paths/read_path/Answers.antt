@@ -1,7 +1,7 @@
 use Rattle.std.proofs.Common.{◌≡◌, ◌∷◌, [], ◌∙◌, sym, ap, lit<, None, Some}
 use Rattle.std.proofs.lemmas.Result.{IfOk-weaker}
 use Rattle.std.proofs.lemmas.Str.Pattern.{split_once_first, split_parts}
-use Rattle.slint_meaning.specs.Paths.{path_from}
+use Rattle.script_lines.specs.Paths.{path_from}
 use Rattle.script_lines.proofs.Following.{path_of-more, path_of-none, points-none}
 use Rattle.script_lines.proofs.paths.read_path.Goals as goal
 

@@ -1,6 +1,6 @@
 use Rattle.std.proofs.Common.{◌∙◌, sym, ap, Some, None, lit<}
 use Rattle.std.proofs.lemmas.Str.Pattern.{strip_suffix_char}
-use Rattle.slint_meaning.specs.Paths.{before_close, bracketed}
+use Rattle.script_lines.specs.Paths.{before_close, bracketed}
 use Rattle.script_lines.proofs.Rows.{before_close-push, before_close-none}
 use Rattle.script_lines.proofs.paths.read_row.Goals as goal
 

@@ -3,7 +3,7 @@ use Rattle.std.specs.Prelude.{codes}
 use Rattle.std.specs.List.{list_all, starts_with}
 use Rattle.std.proofs.lemmas.Iterator.{YieldsList-from_slice}
 use Rattle.std.proofs.lemmas.Iterator.Search.{all_from_yields_List}
-use Rattle.slint_meaning.specs.Lines.{is_blank}
+use Rattle.script_lines.specs.Lines.{is_blank}
 use Rattle.script_lines.proofs.words.is_passed_over.Goals as goal
 
 pub returns-then-all : goal.returns-then-all

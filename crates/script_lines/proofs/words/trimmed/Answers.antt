@@ -1,6 +1,6 @@
 use Rattle.std.proofs.Common.{◌∙◌, ap}
 use Rattle.script_lines.proofs.Trims.{after_blanks-trim, without_end_blanks-trim}
-use Rattle.slint_meaning.specs.Lines.{after_blanks}
+use Rattle.script_lines.specs.Lines.{after_blanks}
 use Rattle.script_lines.proofs.words.trimmed.Goals as goal
 
 pub returns : goal.returns

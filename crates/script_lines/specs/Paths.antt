@@ -7,7 +7,8 @@ use Rattle.std.specs.Str.{chars}
 use Rattle.std.specs.Str.Parse.{digits_value}
 use Rattle.unicode_ident.specs.Ident.{is_xid_start, is_xid_continue}
 use Rattle.slint_base.specs.Names.{normal_name}
-use Rattle.slint_meaning.specs.declared.commands.PathStep.{PathStep}
+use Rattle.slint_base.specs.Options.{all_of}
+use Rattle.script_lines.specs.declared.commands.PathStep.{PathStep}
 
 -- the characters of a name: one that may begin an identifier or `_`, then such as may go on in one and `-`
 abbrev pub are_name_chars : List ℕ → Bool
@@ -55,16 +56,9 @@ step_of text =
     then option_map (λ row. record { name = normal_name (before_bracket text); row = row }) (row_of (from_bracket text))
     else None
 
--- all values, where each is there
-abbrev pub onto_all : {A : Type 0} → Option A → Option (List A) → Option (List A)
-onto_all None others = None
-onto_all (Some x) None = None
-onto_all (Some x) (Some xs) = Some (x ∷ xs)
-
 -- the steps behind the first name
 abbrev pub steps_of : List (List ℕ) → Option (List PathStep)
-steps_of [] = Some []
-steps_of (text ∷ texts) = onto_all (step_of text) (steps_of texts)
+steps_of texts = all_of step_of texts
 
 -- a path's parts: the first is a name alone
 abbrev pub path_from : List (List ℕ) → Option (List PathStep)

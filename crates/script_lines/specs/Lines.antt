@@ -2,11 +2,11 @@
 use Rattle.std.specs.Prelude.{ℕ, Bool, List, [], ◌∷◌, length, ◌==◌, ◌||◌, nat_eq, nat_lt, if◌then◌else◌, codes, Option, None, Some, Result, Ok, Err}
 use Rattle.std.specs.List.{list_all, starts_with}
 use Rattle.std.specs.Str.{bytes_eq, is_utf8}
-use Rattle.slint_meaning.specs.declared.commands.Command.{Command}
-use Rattle.slint_meaning.specs.declared.commands.Command.TheVariants.{Get, Set}
-use Rattle.slint_meaning.specs.declared.commands.BadLine.{BadLine}
-use Rattle.slint_meaning.specs.declared.commands.BadLine.TheVariants.{TooLong, Unread}
-use Rattle.slint_meaning.specs.Paths.{path_of}
+use Rattle.script_lines.specs.declared.commands.Command.{Command}
+use Rattle.script_lines.specs.declared.commands.Command.TheVariants.{Get, Set}
+use Rattle.script_lines.specs.declared.commands.BadLine.{BadLine}
+use Rattle.script_lines.specs.declared.commands.BadLine.TheVariants.{TooLong, Unread}
+use Rattle.script_lines.specs.Paths.{path_of}
 
 -- a line with one more byte at its front; where there is no line yet, that byte is one
 abbrev pub onto_first : ℕ → List (List ℕ) → List (List ℕ)
