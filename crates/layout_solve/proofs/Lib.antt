@@ -1,0 +1,14 @@
+pub mod Bounds
+pub mod FirstTracks
+pub mod Greatest
+pub mod Growth
+pub mod Halving
+pub mod ItemSizes
+pub mod Offsets
+pub mod OneWay
+pub mod Raising
+pub mod Sharing
+pub mod Totals
+pub mod TrackSteps
+pub mod Wide
+pub mod Widening
