@@ -1,9 +1,10 @@
 -- Digits behind a point.
-use Rattle.std.proofs.Common.{◌≡◌, ◌≢◌, ℕ, zero, suc, ◌+◌, ◌-◌, ◌*◌, ◌/◌, ◌%◌, ◌^◌, ◌<◌, ◌≤◌, List, [], ◌∷◌, ◌++◌, append_assoc, sym, ◌∙◌, ap, refl, arith, rules, false}
+use Rattle.std.proofs.Common.{◌≡◌, ◌≢◌, ℕ, zero, suc, ◌+◌, ◌-◌, ◌*◌, ◌/◌, ◌%◌, ◌^◌, ◌<◌, List, [], ◌∷◌, ◌++◌, append_assoc, ◌∙◌, ap, refl, arith, false}
 use Rattle.std.proofs.lemmas.Bool.Decides.{nat_tests}
-use Rattle.std.specs.Prelude.{◌==◌, if◌then◌else◌}
+use Rattle.std.specs.Prelude.{◌==◌}
 use Rattle.std.proofs.Math.Nat.{pow-suc, pow-succ', div-lt_iff_lt-mul, mod-lt}
-use Rattle.value_types.specs.Printed.{fraction_digits, behind_point}
+use Rattle.slint_literals.specs.Numbers.{pointed}
+use Rattle.value_types.specs.Printed.{fraction_digits}
 
 nat_eq_false : (a b : ℕ) → a ≢ b → (a == b) ≡ false
 nat_eq_false a b h = grind (arith, nat_tests)
@@ -55,6 +56,6 @@ pub digit_then : (a b c rest all spelled : List ℕ) (x y : ℕ) → b ≡ a ++ 
 digit_then a b c rest all spelled x y e s d f g = rw f (rw e (rw s (rw d (rw g (append_assoc a (y ∷ []) rest)))))
 
 -- a point stands before digits
-pub point_then : (places parts : ℕ) → parts ≢ 0 → parts < 10 ^ places → behind_point (fraction_digits places parts) ≡ 46 ∷ fraction_digits places parts
+pub point_then : (places parts : ℕ) → parts ≢ 0 → parts < 10 ^ places → pointed (fraction_digits places parts) ≡ 46 ∷ fraction_digits places parts
 point_then places parts h l =
     let e = (is_digit places (places - 1) parts (10 ^ (places - 1)) h l refl refl).digits in rw e refl

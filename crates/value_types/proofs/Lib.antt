@@ -1,3 +1,5 @@
 pub mod ConversionLemmas
 pub mod Fractions
 pub mod Sames
+pub mod Joined
+pub mod PrintedUtf8

@@ -1,5 +1,5 @@
 -- The values that values are converted to.
-use Rattle.std.specs.Prelude.{ℕ, zero, ℤ, pos, negsuc, ◌*ℤ◌, int_div, Bool, true, false, ◌||◌, ◌==◌, if◌then◌else◌, List, [], ◌∷◌, map, Option, Some, None}
+use Rattle.std.specs.Prelude.{ℕ, zero, ℤ, pos, ◌*ℤ◌, int_div, Bool, ◌||◌, ◌==◌, if◌then◌else◌, List, [], ◌∷◌, map, Option, Some, None}
 use Rattle.std.specs.Fmt.{signed_decimal}
 use Rattle.std.specs.List.{list_all, list_any}
 use Rattle.std.specs.Option.{option_map}

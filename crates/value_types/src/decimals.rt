@@ -1,6 +1,7 @@
 ghost use Rattle.std.specs.Prelude.{◌≡◌, ◌+◌, ◌<◌, ◌≤◌, ◌/◌, ◌%◌, ◌^◌, ◌++◌, OnOk, string_bytes};
 ghost use Rattle.std.specs.Fmt.{signed_decimal};
-ghost use Rattle.value_types.specs.Printed.{fraction_digits, behind_point, printed_size, printed_parts};
+ghost use Rattle.slint_literals.specs.Numbers.{pointed};
+ghost use Rattle.value_types.specs.Printed.{fraction_digits, printed_size, printed_parts, printed_millionths, printed_thousandths};
 
 use slint_base::Memory;
 
@@ -33,7 +34,7 @@ fn push_digits(text: &mut String, places: u32, parts: u64) -> Result<(), Memory>
 fn push_fraction(text: &mut String, places: u32, parts: u64) -> Result<(), Memory>
     requires few { places ≤ 15 }
     requires small { parts < 10 ^ places }
-    ensures { OnOk result (string_bytes text.new ≡ string_bytes text.old ++ behind_point (fraction_digits places parts)) }
+    ensures { OnOk result (string_bytes text.new ≡ string_bytes text.old ++ pointed (fraction_digits places parts)) }
 {
     if parts == 0 {
         return Ok(());
@@ -44,7 +45,7 @@ fn push_fraction(text: &mut String, places: u32, parts: u64) -> Result<(), Memor
 }
 
 /// Appends a number of parts of `10 ^ places` as a decimal without zeros at its end.
-pub(crate) fn push_parts(text: &mut String, places: u32, number: i64) -> Result<(), Memory>
+fn push_parts(text: &mut String, places: u32, number: i64) -> Result<(), Memory>
     requires { places ≤ 15 }
     ensures { OnOk result (string_bytes text.new ≡ string_bytes text.old ++ printed_parts places number) }
 {
@@ -65,4 +66,18 @@ fn push_size(text: &mut String, places: u32, size: u64) -> Result<(), Memory>
     write!(text, "{whole}")?;
     push_fraction(text, places, size % scale)?;
     Ok(())
+}
+
+/// Appends a number of millionths as a decimal without zeros at its end.
+pub(crate) fn push_millionths(text: &mut String, number: i64) -> Result<(), Memory>
+    ensures { OnOk result (string_bytes text.new ≡ string_bytes text.old ++ printed_millionths number) }
+{
+    push_parts(text, 6, number)
+}
+
+/// Appends a number of thousandths as a decimal without zeros at its end.
+pub(crate) fn push_thousandths(text: &mut String, number: i64) -> Result<(), Memory>
+    ensures { OnOk result (string_bytes text.new ≡ string_bytes text.old ++ printed_thousandths number) }
+{
+    push_parts(text, 3, number)
 }

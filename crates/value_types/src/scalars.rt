@@ -6,16 +6,13 @@ ghost use Rattle.value_types.specs.declared.types.Ty.{out-Ty};
 ghost use Rattle.value_types.specs.declared.values.Value.TheVariants as value_of;
 ghost use Rattle.value_types.specs.Conversions.{if_zero, int_in, float_in, percent_in, bool_in, text_in, color_in, length_in, duration_in, angle_in, image_in, enum_in, void_in};
 
-use crate::decimals::{push_int, push_parts};
+use crate::decimals::{push_int, push_millionths};
 use crate::{Ty, Value};
 use slint_base::{Memory, Text, sat_div};
 use std::alloc::Global;
 
 /// How many millionths are 1.
 const MILLION: i64 = 1_000_000;
-
-/// How many places behind the point millionths take.
-const MILLIONTHS: u32 = 6;
 
 /// 0 of a type, for the number 0.
 fn if_zero(number: i32, zero: Value) -> Option<Value>
@@ -63,7 +60,7 @@ fn float_text(alloc: Global, number: i64) -> Result<Text, Memory>
     ensures { IfOk result (λ text. text ≡ printed_millionths number) }
 {
     let mut text = String::new(alloc);
-    push_parts(&mut text, MILLIONTHS, number)?;
+    push_millionths(&mut text, number)?;
     Ok(Text::from_string(text))
 }
 

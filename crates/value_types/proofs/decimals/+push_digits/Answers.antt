@@ -1,5 +1,4 @@
 use Rattle.std.proofs.Common.{rules, arith, refl, append-nil, ◌+◌, ◌-◌, ◌/◌, ◌<◌, string_bytes}
-use Rattle.value_types.specs.Printed.{fraction_digits}
 use Rattle.value_types.proofs.Fractions.{no_parts, is_digit, digit_then}
 use Rattle.value_types.proofs.decimals.+push_digits.Goals as goal
 

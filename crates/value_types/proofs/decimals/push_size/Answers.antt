@@ -1,4 +1,3 @@
-use Rattle.std.proofs.Common.{rules}
 use Rattle.value_types.proofs.Fractions.{scale_positive, rest_small}
 use Rattle.value_types.proofs.decimals.push_size.Goals as goal
 
