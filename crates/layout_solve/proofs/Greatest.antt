@@ -20,13 +20,13 @@ most-is m a b x y e = omega (arith, ints, clamps, e, x.low, x.high, y.low, y.hig
 
 pub greatest_item-is : (a b : Item) → IsItem a → IsItem b → IsItem (greatest_item a b)
 greatest_item-is a b p q = record {
-    low = omega (arith, ints, clamps, p.low, q.low);
-    ordered = omega (arith, ints, clamps, p.ordered, q.ordered);
-    topped = omega (arith, ints, clamps, p.topped, q.topped);
-    high = omega (arith, ints, clamps, p.high, q.high);
-    weighs = omega (arith, ints, clamps, p.weighs, q.weighs);
-    light = omega (arith, ints, clamps, p.light, q.light);
-  }
+  low = omega (arith, ints, clamps, p.low, q.low);
+  ordered = omega (arith, ints, clamps, p.ordered, q.ordered);
+  topped = omega (arith, ints, clamps, p.topped, q.topped);
+  high = omega (arith, ints, clamps, p.high, q.high);
+  weighs = omega (arith, ints, clamps, p.weighs, q.weighs);
+  light = omega (arith, ints, clamps, p.light, q.light);
+}
 
 pub empty_track-is : IsItem empty_track
 empty_track-is = record { low = omega (arith, ints); ordered = omega (arith, ints); topped = omega (arith, ints); high = omega (arith, ints); weighs = omega (arith, ints); light = omega (arith, ints) }
@@ -41,16 +41,16 @@ least_track-is = record { low = omega (arith, ints); ordered = omega (arith, int
 pub greatest_item-least : (a : Item) → IsItem a → greatest_item least_track a ≡ a
 greatest_item-least a is =
     same_item _ _ _ _ _ _ _ _
-        (omega (arith, ints, clamps, is.low))
-        (omega (arith, ints, clamps, is.low, is.ordered))
-        (omega (arith, ints, clamps, is.low, is.ordered, is.topped))
-        (omega (arith, ints, clamps, is.weighs))
+    (omega (arith, ints, clamps, is.low))
+    (omega (arith, ints, clamps, is.low, is.ordered))
+    (omega (arith, ints, clamps, is.low, is.ordered, is.topped))
+    (omega (arith, ints, clamps, is.weighs))
 
 -- a track that is raised, seen at each place
 pub topped-set : (tracks : List Item) (first t : ℕ) (item v d : Item) → first < length tracks → v ≡ greatest_item (get_or tracks first d) item
     → get_or (set tracks first v) t d ≡ cond (eqb first t) (greatest_item (get_or tracks t d) item) (get_or tracks t d)
 topped-set tracks first t item v d within e =
     ⊎_elim
-        (λ same. rw (eq-eqb first t same) (rw (sym same) (get_or-set_same tracks first v d within ∙ e)))
-        (λ other. rw (ne_eqb first t other) (get_or-set_other tracks first t v d (λ f. other (sym f))))
-        (cases_eq first t)
+    (λ same. rw (eq-eqb first t same) (rw (sym same) (get_or-set_same tracks first v d within ∙ e)))
+    (λ other. rw (ne_eqb first t other) (get_or-set_other tracks first t v d (λ f. other (sym f))))
+    (cases_eq first t)

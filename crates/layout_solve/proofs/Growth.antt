@@ -23,10 +23,10 @@ product-is : (by : ℕ) (w b d : ℤ) → by < 2 ^ 64 → IsWeight w → b ≡ p
 product-is by w b d short is p q =
     let g = gain by w short is in
     kept-is _ _
-        (both (λ x y. x *ℤ y) (kept b) (kept d) (pos by) w
-            (kept-is b (pos by) p (record { low = omega (arith, ints); high = omega (arith, ints) }))
-            (kept-is d w q (record { low = omega (arith, ints, is.some); high = omega (arith, ints, is.light) })))
-        (record { low = omega (arith, ints, g.some); high = omega (arith, ints, g.light) })
+    (both (λ x y. x *ℤ y) (kept b) (kept d) (pos by) w
+    (kept-is b (pos by) p (record { low = omega (arith, ints); high = omega (arith, ints) }))
+    (kept-is d w q (record { low = omega (arith, ints, is.some); high = omega (arith, ints, is.light) })))
+    (record { low = omega (arith, ints, g.some); high = omega (arith, ints, g.light) })
 
 -- what the code has of an item and a level: its preferred size, the level, the weight that counts and its greatest size
 pub record IsRead (even : Bool) (by : ℕ) (item : Item) (a b d : ℤ) : Type 0 where
@@ -52,8 +52,8 @@ wanted-is : (even : Bool) (by : ℕ) (item : Item) (a b d : ℤ) → IsRead even
     → kept a +ℤ kept (kept b *ℤ kept d) ≡ item.pref +ℤ pos by *ℤ weight_in even item
 wanted-is even by item a b d r =
     both (λ x y. x +ℤ y) (kept a) (kept (kept b *ℤ kept d)) item.pref (pos by *ℤ weight_in even item)
-        (kept_within a item.pref (within-is a item.pref (item_pref item r.item_is) r.pref) (item_pref item r.item_is))
-        (product-is by (weight_in even item) b d r.short (weight_in-is even item r.item_is) r.level (within-is d _ (weight_within even item r.item_is) r.weight))
+    (kept_within a item.pref (within-is a item.pref (item_pref item r.item_is) r.pref) (item_pref item r.item_is))
+    (product-is by (weight_in even item) b d r.short (weight_in-is even item r.item_is) r.level (within-is d _ (weight_within even item r.item_is) r.weight))
 
 pub wanted-fits : (even : Bool) (by : ℕ) (item : Item) (a b d : ℤ) → IsRead even by item a b d → FitsSigned w128 (kept a +ℤ kept (kept b *ℤ kept d))
 wanted-fits even by item a b d r = rw (wanted-is even by item a b d r) (held_fits _ (wanted-held even by item r.item_is r.short))
@@ -68,8 +68,8 @@ pub grown-by : (even : Bool) (by : ℕ) (item : Item) (a b d e m : ℤ) → IsRe
 grown-by even by item a b d e m r s t =
     let top = item_max item r.item_is in
     t ∙ both int_min (kept e) (kept (kept a +ℤ kept (kept b *ℤ kept d))) item.max (item.pref +ℤ pos by *ℤ weight_in even item)
-        (kept_within e item.max (within-is e item.max top s) top)
-        (kept-is _ _ (wanted-is even by item a b d r) (wanted-held even by item r.item_is r.short))
+    (kept_within e item.max (within-is e item.max top s) top)
+    (kept-is _ _ (wanted-is even by item a b d r) (wanted-held even by item r.item_is r.short))
 
 -- what an item wants that shrinks, in 128 bits
 pub shrunk-by : (by : ℕ) (item : Item) (a b e m : ℤ) → IsItem item → by < 2 ^ 64 → a ≡ to_z w64 (of_z w64 item.pref) → b ≡ pos by → e ≡ to_z w64 (of_z w64 item.min)
@@ -78,12 +78,12 @@ shrunk-by by item a b e m is short p q s t =
     let pref = item_pref item is in
     let low = item_min item is in
     t ∙ both int_max (kept e) (kept (kept a -ℤ kept b)) item.min (item.pref -ℤ pos by)
-        (kept_within e item.min (within-is e item.min low s) low)
-        (kept-is _ _
-            (both (λ x y. x -ℤ y) (kept a) (kept b) item.pref (pos by)
-                (kept_within a item.pref (within-is a item.pref pref p) pref)
-                (kept-is b (pos by) q (record { low = omega (arith, ints); high = omega (arith, ints) })))
-            (record { low = omega (arith, ints, pref.low); high = omega (arith, ints, pref.high) }))
+    (kept_within e item.min (within-is e item.min low s) low)
+    (kept-is _ _
+    (both (λ x y. x -ℤ y) (kept a) (kept b) item.pref (pos by)
+    (kept_within a item.pref (within-is a item.pref pref p) pref)
+    (kept-is b (pos by) q (record { low = omega (arith, ints); high = omega (arith, ints) })))
+    (record { low = omega (arith, ints, pref.low); high = omega (arith, ints, pref.high) }))
 
 pub shrunk_within : (by : ℕ) (item : Item) → IsItem item → IsWithinLimits (shrunk by item)
 shrunk_within by item is =

@@ -27,32 +27,32 @@ pub record IsBetween (items : List Item) (room : ℤ) (low high : ℕ) : Type 0 
 
 pub between-first : (items : List Item) (room : ℤ) → All IsItem items → preferred_sum items ≤ℤ room → IsBetween items room 0 most_units
 between-first items room all fits = record {
-    ordered = omega arith;
-    has = record {
-      within = omega arith;
-      fits = omega (arith, ints, fits, total-map_same IsItem (grown (are_weightless items) 0) (λ item. item.pref) (grown-none (are_weightless items)) items (recursion_from_All IsItem items all));
-    };
-    bound = λ j f. f.within;
+  ordered = omega arith;
+  has = record {
     within = omega arith;
-  }
+    fits = omega (arith, ints, fits, total-map_same IsItem (grown (are_weightless items) 0) (λ item. item.pref) (grown-none (are_weightless items)) items (recursion_from_All IsItem items all));
+  };
+  bound = λ j f. f.within;
+  within = omega arith;
+}
 
 pub between-raised : (items : List Item) (room : ℤ) (low middle high : ℕ) → IsBetween items room low high → middle ≤ high → total (map (grown (are_weightless items) middle) items) ≤ℤ room
     → IsBetween items room middle high
 between-raised items room low middle high h le fits = record {
-    ordered = le;
-    has = record { within = omega (arith, h.within); fits = fits };
-    bound = h.bound;
-    within = h.within;
-  }
+  ordered = le;
+  has = record { within = omega (arith, h.within); fits = fits };
+  bound = h.bound;
+  within = h.within;
+}
 
 pub between-lowered : (items : List Item) (room : ℤ) (low middle high : ℕ) → All IsItem items → IsBetween items room low high → low < middle → middle ≤ high → room <ℤ total (map (grown (are_weightless items) middle) items)
     → IsBetween items room low (middle - 1)
 between-lowered items room low middle high all h above le over = record {
-    ordered = omega arith;
-    has = h.has;
-    bound = λ j f. below j f;
-    within = omega (arith, h.within);
-  }
+  ordered = omega arith;
+  has = h.has;
+  bound = λ j f. below j f;
+  within = omega (arith, h.within);
+}
   where
     below : (j : ℕ) → FitsGrown items room j → j ≤ middle - 1
     below j f = ⊎_elim (λ lt. omega arith) (λ ge. absurd (omega (arith, ints, f.fits, over, grown_total-rises items (are_weightless items) middle j all ge))) (cases_lt j middle)
@@ -69,29 +69,29 @@ pub record IsAround (items : List Item) (room : ℤ) (low high : ℕ) : Type 0 w
 
 pub around-first : (items : List Item) (room : ℤ) → All IsItem items → least_sum items ≤ℤ room → IsAround items room 0 (2 * most_units)
 around-first items room all fits = record {
-    ordered = omega arith;
-    has = record { fits = omega (arith, ints, fits, total-map_same IsItem (shrunk (2 * most_units)) (λ item. item.min) shrunk-all items (recursion_from_All IsItem items all)) };
-    bound = λ j f. omega arith;
-    within = omega arith;
-  }
+  ordered = omega arith;
+  has = record { fits = omega (arith, ints, fits, total-map_same IsItem (shrunk (2 * most_units)) (λ item. item.min) shrunk-all items (recursion_from_All IsItem items all)) };
+  bound = λ j f. omega arith;
+  within = omega arith;
+}
 
 pub around-lowered : (items : List Item) (room : ℤ) (low middle high : ℕ) → IsAround items room low high → low ≤ middle → middle ≤ high → total (map (shrunk middle) items) ≤ℤ room
     → IsAround items room low middle
 around-lowered items room low middle high h ge le fits = record {
-    ordered = ge;
-    has = record { fits = fits };
-    bound = h.bound;
-    within = omega (arith, h.within);
-  }
+  ordered = ge;
+  has = record { fits = fits };
+  bound = h.bound;
+  within = omega (arith, h.within);
+}
 
 pub around-raised : (items : List Item) (room : ℤ) (low middle high : ℕ) → All IsItem items → IsAround items room low high → middle < high → room <ℤ total (map (shrunk middle) items)
     → IsAround items room (middle + 1) high
 around-raised items room low middle high all h le over = record {
-    ordered = omega arith;
-    has = h.has;
-    bound = λ j f. above j f;
-    within = h.within;
-  }
+  ordered = omega arith;
+  has = h.has;
+  bound = λ j f. above j f;
+  within = h.within;
+}
   where
     above : (j : ℕ) → FitsShrunk items room j → middle + 1 ≤ j
     above j f = ⊎_elim (λ lt. omega arith) (λ ge. absurd (omega (arith, ints, f.fits, over, shrunk_total-falls items j middle all ge))) (cases_lt middle j)

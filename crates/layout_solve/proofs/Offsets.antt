@@ -29,12 +29,12 @@ more-times i (negsuc n) = omega (arith, ints)
 
 pub placing-none : (align : Align) (sizes : List ℤ) (room spacing : ℤ) (out : List ℤ) → length out ≡ length sizes → IsPlacing align sizes room spacing out (pos 0) 0
 placing-none align sizes room spacing out long = record {
-    long = long;
-    before = none-times spacing;
-    low = omega (arith, ints);
-    high = omega (arith, ints);
-    done = λ k below. absurd (omega arith);
-  }
+  long = long;
+  before = none-times spacing;
+  low = omega (arith, ints);
+  high = omega (arith, ints);
+  done = λ k below. absurd (omega arith);
+}
 
 -- one more item
 pub placing-more : (align : Align) (sizes : List ℤ) (room spacing : ℤ) (out : List ℤ) (start : ℤ) (i : ℕ) (written new : ℤ) → IsPlacing align sizes room spacing out start i
@@ -42,14 +42,14 @@ pub placing-more : (align : Align) (sizes : List ℤ) (room spacing : ℤ) (out 
     → written ≡ sat (start +ℤ pos (shift align (length sizes) (room_left sizes room) i)) → new ≡ start +ℤ (get_or sizes i (pos 0) +ℤ spacing)
     → IsPlacing align sizes room spacing (set out i written) new (i + 1)
 placing-more align sizes room spacing out start i written new h within size gap e f = record {
-    long = length-set out i written ∙ h.long;
-    before = omega (arith, ints, f, h.before, sum, more-times i spacing);
-    low = omega (arith, ints, f, h.low, size.low, gap.low);
-    high = omega (arith, ints, f, h.high, size.high, gap.high);
-    done = below_more _ i
-        (λ k below. let ne : k ≢ i = omega arith in rw get_or-set_other (h.done k below))
-        (let lt : i < length out = omega (arith, h.long, within) in rw get_or-set_same (e ∙ ap (λ z. sat (z +ℤ pos (shift align (length sizes) (room_left sizes room) i))) h.before));
-  }
+  long = length-set out i written ∙ h.long;
+  before = omega (arith, ints, f, h.before, sum, more-times i spacing);
+  low = omega (arith, ints, f, h.low, size.low, gap.low);
+  high = omega (arith, ints, f, h.high, size.high, gap.high);
+  done = below_more _ i
+      (λ k below. let ne : k ≢ i = omega arith in rw get_or-set_other (h.done k below))
+      (let lt : i < length out = omega (arith, h.long, within) in rw get_or-set_same (e ∙ ap (λ z. sat (z +ℤ pos (shift align (length sizes) (room_left sizes room) i))) h.before));
+}
   where
     sum : total (take (i + 1) sizes) ≡ total (take i sizes) +ℤ get_or sizes i (pos 0)
     sum = ap total (sym (map-id (take (i + 1) sizes))) ∙ total-map_more (λ (z : ℤ). z) sizes i (pos 0) within ∙ ap (λ z. z +ℤ get_or sizes i (pos 0)) (ap total (map-id (take i sizes)))

@@ -25,11 +25,11 @@ roomy items room false s t fits a b = a.kept fits (search rules) ∙ sym (b.kept
 tight : (items : List Item) (room : ℤ) (grow : Bool) (s t : Sizing) → room <ℤ preferred_sum items → IsSizing items room grow s → IsSizing items room grow t → s ≡ t
 tight items room grow s t over a b =
     by_lt_z room (least_sum items)
-        (λ below. a.least over below ∙ sym (b.least over below))
-        (λ fits.
-            let x = a.shrunk over fits in
-            let y = b.shrunk over fits in
-            x.2 ∙ ap Shrunk (one_least (FitsShrunk items room) x.0 y.0 x.1 y.1) ∙ sym y.2)
+    (λ below. a.least over below ∙ sym (b.least over below))
+    (λ fits.
+    let x = a.shrunk over fits in
+    let y = b.shrunk over fits in
+    x.2 ∙ ap Shrunk (one_least (FitsShrunk items room) x.0 y.0 x.1 y.1) ∙ sym y.2)
 
 one_sizing : (items : List Item) (room : ℤ) (grow : Bool) (s t : Sizing) → IsSizing items room grow s → IsSizing items room grow t → s ≡ t
 one_sizing items room grow s t a b =

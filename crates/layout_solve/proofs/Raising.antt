@@ -44,7 +44,7 @@ raised-by more_min more_pref track least pref most high between is a b d e f =
     let m = item_max track is in
     let w = item_weight track is in
     same_item _ _ _ _ _ _ _ _
-        (omega (arith, ints, a, s.low, s.high))
-        (omega (arith, ints, clamps, a, b, d, e, f, s.low, s.high, p.low, p.high, m.low, m.high))
-        (omega (arith, ints, clamps, a, d, s.low, s.high, m.low, m.high))
-        (omega (arith, ints, w.low, w.high))
+    (omega (arith, ints, a, s.low, s.high))
+    (omega (arith, ints, clamps, a, b, d, e, f, s.low, s.high, p.low, p.high, m.low, m.high))
+    (omega (arith, ints, clamps, a, d, s.low, s.high, m.low, m.high))
+    (omega (arith, ints, w.low, w.high))

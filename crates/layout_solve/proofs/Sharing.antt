@@ -45,15 +45,15 @@ pub sharing-more : (sizing : Sizing) (items : List Item) (rest : ℤ) (out : Lis
     → i < length items → IsGift sizing (get_or items i d) left given → size ≡ size_at sizing (get_or items i d) +ℤ given → new ≡ left -ℤ given
     → IsSharing sizing items rest (set out i size) new (i + 1)
 sharing-more sizing items rest out left i d given size new h within g e f = record {
-    done =
-        ap (λ xs. xs ++ shared sizing new (drop (i + 1) items)) (take_more_set out i size (omega (arith, h.long, within)))
-        ∙ append_assoc (take i out) (size ∷ []) (shared sizing new (drop (i + 1) items))
-        ∙ ap (λ xs. take i out ++ xs) (sym (at_drop_more (shared sizing left) items i d within ∙ cut))
-        ∙ h.done;
-    some = omega (arith, ints, clamps, f, g.value, h.some);
-    high = omega (arith, ints, f, g.some, h.high);
-    long = length-set out i size ∙ h.long;
-  }
+  done =
+      ap (λ xs. xs ++ shared sizing new (drop (i + 1) items)) (take_more_set out i size (omega (arith, h.long, within)))
+      ∙ append_assoc (take i out) (size ∷ []) (shared sizing new (drop (i + 1) items))
+      ∙ ap (λ xs. take i out ++ xs) (sym (at_drop_more (shared sizing left) items i d within ∙ cut))
+      ∙ h.done;
+  some = omega (arith, ints, clamps, f, g.value, h.some);
+  high = omega (arith, ints, f, g.some, h.high);
+  long = length-set out i size ∙ h.long;
+}
   where
     cut : shared sizing left (get_or items i d ∷ drop (i + 1) items) ≡ size ∷ shared sizing new (drop (i + 1) items)
     cut = rw (sym g.value) (ap (λ x. x ∷ shared sizing (left -ℤ given) (drop (i + 1) items)) (sym e) ∙ ap (λ x. size ∷ shared sizing x (drop (i + 1) items)) (sym f))
@@ -76,14 +76,14 @@ room-left sizing room items a b r =
 pub room_fits : (sizing : Sizing) (room : ℤ) (items : List Item) (a b : ℤ) → IsRoom sizing room items a b → FitsSigned w128 (kept a -ℤ kept b)
 room_fits sizing room items a b r =
     rw (room-left sizing room items a b r)
-        (near_fits _ (omega (arith, ints, r.within.low, r.held.high)) (omega (arith, ints, r.within.high, r.held.low)))
+    (near_fits _ (omega (arith, ints, r.within.low, r.held.high)) (omega (arith, ints, r.within.high, r.held.low)))
 
 pub divided-by : (sizing : Sizing) (room : ℤ) (items : List Item) (a b m : ℤ) (out : List ℤ) → IsRoom sizing room items a b → m ≡ int_max (kept (kept a -ℤ kept b)) (pos 0)
     → out ≡ shared sizing (kept m) items → out ≡ divided sizing room items
 divided-by sizing room items a b m out r e f =
     let sum = total (map (size_at sizing) items) in
     let left : kept (kept a -ℤ kept b) ≡ room -ℤ sum =
-        ap kept (room-left sizing room items a b r) ∙ to_z-of_z w128 _ (near_fits _ (omega (arith, ints, r.within.low, r.held.high)) (omega (arith, ints, r.within.high, r.held.low)))
+    ap kept (room-left sizing room items a b r) ∙ to_z-of_z w128 _ (near_fits _ (omega (arith, ints, r.within.low, r.held.high)) (omega (arith, ints, r.within.high, r.held.low)))
     in
     let most : m ≡ int_max (room -ℤ sum) (pos 0) = e ∙ ap (λ z. int_max z (pos 0)) left in
-    f ∙ ap (λ z. shared sizing z items) (ap kept most ∙ to_z-of_z w128 _ (near_fits _ (omega (arith, ints, clamps)) (omega (arith, ints, clamps, r.within.high, r.held.low))) )
+    f ∙ ap (λ z. shared sizing z items) (ap kept most ∙ to_z-of_z w128 _ (near_fits _ (omega (arith, ints, clamps)) (omega (arith, ints, clamps, r.within.high, r.held.low))))

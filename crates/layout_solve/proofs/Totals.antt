@@ -45,10 +45,10 @@ summed-none f xs = record { is = refl; low = omega (arith, ints); high = omega (
 pub summed-more : {X : Type 0} (f : X → ℤ) (xs : List X) (i : ℕ) (d : X) (old new : ℤ) → IsSummed f xs i old → i < length xs → IsWithinLimits (f (get_or xs i d)) → new ≡ old +ℤ f (get_or xs i d)
     → IsSummed f xs (i + 1) new
 summed-more f xs i d old new h within fx e = record {
-    is = e ∙ ap (λ z. z +ℤ f (get_or xs i d)) h.is ∙ sym (total-map_more f xs i d within);
-    low = omega (arith, ints, e, h.low, fx.low);
-    high = omega (arith, ints, e, h.high, fx.high);
-  }
+  is = e ∙ ap (λ z. z +ℤ f (get_or xs i d)) h.is ∙ sym (total-map_more f xs i d within);
+  low = omega (arith, ints, e, h.low, fx.low);
+  high = omega (arith, ints, e, h.high, fx.high);
+}
 
 -- the whole sum
 pub summed_all : {X : Type 0} (f : X → ℤ) (xs : List X) (i : ℕ) (sum : ℤ) → IsSummed f xs i sum → length xs ≤ i → sum ≡ total (map f xs)

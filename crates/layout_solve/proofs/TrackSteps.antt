@@ -56,9 +56,9 @@ topped_all t x now cells i past e = folded_all (topped t) x now cells i past e �
 pub get_or-set_cond : (xs : List Item) (i t : ℕ) (v d : Item) → i < length xs → get_or (set xs i v) t d ≡ cond (eqb i t) v (get_or xs t d)
 get_or-set_cond xs i t v d within =
     ⊎_elim
-        (λ same. rw (eq-eqb i t same) (rw (sym same) (get_or-set_same xs i v d within)))
-        (λ other. rw (ne_eqb i t other) (get_or-set_other xs i t v d (λ e. other (sym e))))
-        (cases_eq i t)
+    (λ same. rw (eq-eqb i t same) (rw (sym same) (get_or-set_same xs i v d within)))
+    (λ other. rw (ne_eqb i t other) (get_or-set_other xs i t v d (λ e. other (sym e))))
+    (cases_eq i t)
 
 -- a range of places grows by one
 range-more : (first i t : ℕ) (mark old : Item) → first ≤ i → cond (eqb i t) mark (cond (leb first t && ltb t i) mark old) ≡ cond (leb first t && ltb t (i + 1)) mark old

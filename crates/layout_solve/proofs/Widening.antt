@@ -38,8 +38,8 @@ gap k (negsuc n) few is =
 pub spacings-is : (k : ℕ) (z a b : ℤ) → k < 2 ^ 32 → IsWithinLimits z → a ≡ pos k → b ≡ to_z w64 (of_z w64 z) → kept a *ℤ kept b ≡ pos k *ℤ z
 spacings-is k z a b few is e f =
     both (λ x y. x *ℤ y) (kept a) (kept b) (pos k) z
-        (kept-is a (pos k) e (record { low = omega (arith, ints); high = omega (arith, ints) }))
-        (kept_within b z (within-is b z is f) is)
+    (kept-is a (pos k) e (record { low = omega (arith, ints); high = omega (arith, ints) }))
+    (kept_within b z (within-is b z is f) is)
 
 -- what the code has of a size that lacks something
 lack-left : (wanted spacings a b : ℤ) → IsWithinLimits wanted → IsGap spacings → IsHeld b → a ≡ to_z w64 (of_z w64 wanted) → kept (kept a -ℤ kept (kept b +ℤ kept spacings)) ≡ wanted -ℤ (b +ℤ spacings)
@@ -90,19 +90,19 @@ widened-by spacing tracks cell gaps more_min more_pref new several p q e =
     let least = lack-is cell spacing (map (λ track. track.min) own) cell.item.min gaps more_min p in
     let pref = lack-is cell spacing (map (λ track. track.pref) own) cell.item.pref gaps more_pref q in
     ap (set tracks last)
-        (e
-        ∙ ap (λ z. raised_track z (kept more_pref) track) least
-        ∙ ap (λ z. raised_track (lacking cell.item.min (map (λ track. track.min) own) spacings) z track) pref)
+    (e
+    ∙ ap (λ z. raised_track z (kept more_pref) track) least
+    ∙ ap (λ z. raised_track (lacking cell.item.min (map (λ track. track.min) own) spacings) z track) pref)
     ∙ ap (λ b. cond b (with_last_raised spacing tracks cell) tracks) (sym (lt-ltb 1 cell.span several))
 
 -- one more cell
 pub widening-more : (cells : List Cell) (spacing : ℤ) (old now new : List Item) (i : ℕ) (d : Cell) → IsWidening cells spacing old now i → i < length cells
     → new ≡ widened spacing now (get_or cells i d) → length new ≡ length now → All IsItem new → IsWidening cells spacing old new (i + 1)
 widening-more cells spacing old now new i d h within e long items = record {
-    long = long ∙ h.long;
-    widened = e ∙ ap (λ a. widened spacing a (get_or cells i d)) h.widened ∙ sym (fold_more (widened spacing) old cells i d within);
-    items = items;
-  }
+  long = long ∙ h.long;
+  widened = e ∙ ap (λ a. widened spacing a (get_or cells i d)) h.widened ∙ sym (fold_more (widened spacing) old cells i d within);
+  items = items;
+}
 
 pub widened-no : (spacing : ℤ) (tracks : List Item) (cell : Cell) → cell.span ≤ 1 → tracks ≡ widened spacing tracks cell
 widened-no spacing tracks cell one = ap (λ b. cond b (with_last_raised spacing tracks cell) tracks) (sym (le-ltb 1 cell.span one))

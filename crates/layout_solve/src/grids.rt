@@ -10,13 +10,28 @@ use crate::{Cell, Item, Sizing};
 use slint_base::LIM;
 
 /// A track that no cell reaches.
-const EMPTY: Item = Item { min: 0, pref: 0, max: 0, weight: 0 };
+const EMPTY: Item = Item {
+    min: 0,
+    pref: 0,
+    max: 0,
+    weight: 0,
+};
 
 /// A track that only spanning cells reach.
-const LOOSE: Item = Item { min: 0, pref: 0, max: LIM, weight: 1 };
+const LOOSE: Item = Item {
+    min: 0,
+    pref: 0,
+    max: LIM,
+    weight: 1,
+};
 
 /// The item of which each number is the least.
-const LEAST: Item = Item { min: -LIM, pref: -LIM, max: -LIM, weight: 0 };
+const LEAST: Item = Item {
+    min: -LIM,
+    pref: -LIM,
+    max: -LIM,
+    weight: 0,
+};
 
 /// The greatest of each number.
 fn greatest(a: &Item, b: &Item) -> Item

@@ -1,4 +1,4 @@
-pub mod Bytes
-pub mod Reading
-pub mod Tokens
-pub use Rattle.slint_base.specs.Names
+pub mod Lexing
+pub mod Names
+pub mod Pieces
+pub mod Symbols

@@ -1,9 +1,6 @@
-//! From the bytes of a source to its tokens.
+//! From the bytes of a source to its tokens, and from tokens to text.
 #![tactic(auto)]
 
-mod lexing;
-mod spellings;
 mod tokens;
 
-pub use lexing::{lex, one_reading, tokens_or_none};
-pub use tokens::{Token, TokenKind};
+pub use tokens::{Symbol, Token, TokenKind};

@@ -25,8 +25,8 @@ overflow_sub-left c =
     let g = c.gift-more.ensures in
     let light = gift_within c.args.sizing _ c.gift-more.result is g.some g.light in
     left_fits c.args.rest _ c.ranges.rest
-        (omega (arith, ints, clamps, c.from-left.ensures, g.value, g.some, light, h.some))
-        (omega (arith, ints, c.from-left.ensures, g.some, light, h.high, to_z-of_z w128 c.args.rest c.ranges.rest))
+    (omega (arith, ints, clamps, c.from-left.ensures, g.value, g.some, light, h.some))
+    (omega (arith, ints, c.from-left.ensures, g.some, light, h.high, to_z-of_z w128 c.args.rest c.ranges.rest))
 
 pub loop-i-preserved : goal.loop-i-preserved
 loop-i-preserved c =
@@ -35,9 +35,9 @@ loop-i-preserved c =
     let g = c.gift-more.ensures in
     let light = gift_within c.args.sizing _ c.gift-more.result is g.some g.light in
     sharing-more c.args.sizing c.args.items.now _ c.loop-i.out _ c.loop-i.i _ c.gift-more.result _ _ c.loop-i.invariant c.loop-i-test.true
-        (record { value = g.value; some = g.some; light = g.light })
-        (omega (arith, ints, c.size.ensures, s.low, s.high, is.low, is.high, g.some, light))
-        (omega (arith, ints, c.from-left.ensures, g.some, light, c.loop-i.invariant.some))
+    (record { value = g.value; some = g.some; light = g.light })
+    (omega (arith, ints, c.size.ensures, s.low, s.high, is.low, is.high, g.some, light))
+    (omega (arith, ints, c.from-left.ensures, g.some, light, c.loop-i.invariant.some))
 
 pub returns : goal.returns
 returns c = sharing_all _ _ _ _ _ _ c.loop-i.invariant c.loop-i-test.false ∙ ap (λ z. shared c.args.sizing z c.args.items.now) (to_z-of_z w128 c.args.rest c.ranges.rest)

@@ -28,8 +28,7 @@ returns c =
       taken = c.total.ensures.sum;
     }
     in
-    let sizing = c.sizing_for-sizing.result in
-    (
+    let sizing = c.sizing_for-sizing.result in (
       sizing,
       rw (to_z-of_z w64 c.args.room c.ranges.room) at c.sizing_for-sizing.ensures,
       divided-by sizing c.args.room c.args.items.now _ _ c.max.result _ r c.max.ensures.value c.share.ensures,

@@ -21,21 +21,21 @@ loop-cell-preserved c =
     let is = c.requires.cells c.loop-cell.cell-index no_cell c.loop-cell-test.true in
     let h = c.loop-cell.invariant in
     elim c.if-cell-eq1.branch [
-        then-cell-eq1 w ↦
-            let inside : cell.first < length c.loop-cell.tracks = omega (arith, is.inside, is.spans, c.loop-cell.auto.tracks) in
-            record {
-              raised = λ t.
-                folded-more _ _ (get_or c.loop-cell.tracks t empty_track) _ c.args.cells.now c.loop-cell.cell-index _ c.loop-cell-test.true (h.raised t)
-                    (topped-yes t cell _ _ w.if-cell-eq1.true
-                        (ap (λ xs. get_or xs t empty_track) w.tracks-is ∙ topped-set c.loop-cell.tracks cell.first t cell.item _ empty_track inside w.greatest.ensures));
-              items = subst (All IsItem) (sym w.tracks-is) (All-set IsItem c.loop-cell.tracks cell.first _ (subst IsItem (sym w.greatest.ensures) (greatest_item-is _ _ (h.items _ empty_track inside) is.item_is)) h.items);
-            }
-        | else-cell-eq1 w ↦ record {
+      | then-cell-eq1 w ↦
+          let inside : cell.first < length c.loop-cell.tracks = omega (arith, is.inside, is.spans, c.loop-cell.auto.tracks) in
+          record {
             raised = λ t.
-              folded-more _ _ (get_or c.loop-cell.tracks t empty_track) _ c.args.cells.now c.loop-cell.cell-index _ c.loop-cell-test.true (h.raised t)
-                  (topped-no t cell _ _ w.if-cell-eq1.false (ap (λ xs. get_or xs t empty_track) w.tracks-is));
-            items = subst (All IsItem) (sym w.tracks-is) h.items;
+                folded-more _ _ (get_or c.loop-cell.tracks t empty_track) _ c.args.cells.now c.loop-cell.cell-index _ c.loop-cell-test.true (h.raised t)
+                (topped-yes t cell _ _ w.if-cell-eq1.true
+                (ap (λ xs. get_or xs t empty_track) w.tracks-is ∙ topped-set c.loop-cell.tracks cell.first t cell.item _ empty_track inside w.greatest.ensures));
+            items = subst (All IsItem) (sym w.tracks-is) (All-set IsItem c.loop-cell.tracks cell.first _ (subst IsItem (sym w.greatest.ensures) (greatest_item-is _ _ (h.items _ empty_track inside) is.item_is)) h.items);
           }
+      | else-cell-eq1 w ↦ record {
+        raised = λ t.
+            folded-more _ _ (get_or c.loop-cell.tracks t empty_track) _ c.args.cells.now c.loop-cell.cell-index _ c.loop-cell-test.true (h.raised t)
+            (topped-no t cell _ _ w.if-cell-eq1.false (ap (λ xs. get_or xs t empty_track) w.tracks-is));
+        items = subst (All IsItem) (sym w.tracks-is) h.items;
+      }
     ]
 
 pub returns-clause-raised : goal.returns-clause-raised

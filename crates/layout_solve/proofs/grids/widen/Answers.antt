@@ -15,9 +15,9 @@ returns-clause-widened c =
     let least = c.lacking-more_min.ensures in
     let pref = c.lacking-more_pref.ensures in
     widened-by c.args.spacing c.args.tracks.now c.args.cell.now c.spacings-between.result c.lacking-more_min.result c.lacking-more_pref.result c.raised.result c.requires.several
-        (record { within = item_min _ c.requires.cell.item_is; gap = gap; gap_is = gap_is; some = least.some; small = least.small; is = least.value })
-        (record { within = item_pref _ c.requires.cell.item_is; gap = gap; gap_is = gap_is; some = pref.some; small = pref.small; is = pref.value })
-        c.raised.ensures.raised
+    (record { within = item_min _ c.requires.cell.item_is; gap = gap; gap_is = gap_is; some = least.some; small = least.small; is = least.value })
+    (record { within = item_pref _ c.requires.cell.item_is; gap = gap; gap_is = gap_is; some = pref.some; small = pref.small; is = pref.value })
+    c.raised.ensures.raised
 
 pub returns-clause-items : goal.returns-clause-items
 returns-clause-items c = All-set IsItem _ _ _ c.raised.ensures.item c.requires.tracks

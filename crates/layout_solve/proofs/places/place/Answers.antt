@@ -22,8 +22,8 @@ loop-i-preserved c =
     let h = c.loop-i.invariant in
     let part = c.shift-part.ensures.shift ∙ ap (λ n. shift c.args.align (length c.args.sizes.now) n c.loop-i.i) c.room_left-left.ensures.left in
     placing-more c.args.align c.args.sizes.now _ _ c.loop-i.out _ c.loop-i.i _ _ c.loop-i.invariant c.loop-i-test.true s g
-        (written-is _ c.loop-i.i _ _ _ h.low h.high (omega arith) c.shift-part.ensures.small c.saturated.ensures part)
-        (omega (arith, ints, c.from-start.ensures, s.low, s.high, g.low, g.high, h.low, h.high))
+    (written-is _ c.loop-i.i _ _ _ h.low h.high (omega arith) c.shift-part.ensures.small c.saturated.ensures part)
+    (omega (arith, ints, c.from-start.ensures, s.low, s.high, g.low, g.high, h.low, h.high))
 
 pub returns : goal.returns
 returns c = placing_all _ _ _ _ _ _ _ _ _ c.loop-i.invariant c.loop-i-test.false (to_z-of_z w64 c.args.room c.ranges.room) (to_z-of_z w64 c.args.spacing c.ranges.spacing)

@@ -6,12 +6,12 @@ use Rattle.layout_solve.proofs.sizings.grown.Goals as goal
 
 read : (c : goal.After-from-3) → IsRead c.args.even c.args.by c.args.item.now c.from.result c.from-2.result c.from-3.result
 read c = record {
-    item_is = c.requires;
-    short = omega arith;
-    pref = c.from.ensures;
-    level = c.from-2.ensures;
-    weight = c.from-3.ensures ∙ ap (λ z. to_z w64 (of_z w64 z)) c.weight_in.ensures;
-  }
+  item_is = c.requires;
+  short = omega arith;
+  pref = c.from.ensures;
+  level = c.from-2.ensures;
+  weight = c.from-3.ensures ∙ ap (λ z. to_z w64 (of_z w64 z)) c.weight_in.ensures;
+}
 
 value : (c : goal.After-min) → c.min.result ≡ grown c.args.even c.args.by c.args.item.now
 value c =

@@ -1,0 +1,14 @@
+pub mod Cells
+pub mod CutKeeps
+pub mod DropLemmas
+pub mod EndsLemmas
+pub mod GrowLemmas
+pub mod Grows
+pub mod LinkKeeps
+pub mod Memory
+pub mod Places
+pub mod Rows
+pub mod SeenLemmas
+pub mod Selections
+pub mod Values
+pub mod WalkLemmas

@@ -1,0 +1,41 @@
+-- How symbols are spelled.
+use Rattle.std.specs.Prelude.{ℕ, List, codes}
+use Rattle.slint_lexer.specs.declared.tokens.Symbol.{Symbol}
+use Rattle.slint_lexer.specs.declared.tokens.Symbol.TheVariants.{TwoWay, ColonEqual, FatArrow, ThinArrow, EqualEqual, NotEqual, LessEqual, GreaterEqual, PlusEqual, MinusEqual, StarEqual, SlashEqual, AndAnd, OrOr, OpenBrace, CloseBrace, OpenParen, CloseParen, OpenBracket, CloseBracket, Less, Greater, Equal, Colon, Semicolon, Comma, Dot, Bang, Question, Plus, Minus, Star, Slash, At}
+
+-- the one spelling of each symbol
+abbrev pub symbol_text : Symbol → List ℕ
+symbol_text TwoWay = codes "<=>"
+symbol_text ColonEqual = codes ":="
+symbol_text FatArrow = codes "=>"
+symbol_text ThinArrow = codes "->"
+symbol_text EqualEqual = codes "=="
+symbol_text NotEqual = codes "!="
+symbol_text LessEqual = codes "<="
+symbol_text GreaterEqual = codes ">="
+symbol_text PlusEqual = codes "+="
+symbol_text MinusEqual = codes "-="
+symbol_text StarEqual = codes "*="
+symbol_text SlashEqual = codes "/="
+symbol_text AndAnd = codes "&&"
+symbol_text OrOr = codes "||"
+symbol_text OpenBrace = codes "{"
+symbol_text CloseBrace = codes "}"
+symbol_text OpenParen = codes "("
+symbol_text CloseParen = codes ")"
+symbol_text OpenBracket = codes "["
+symbol_text CloseBracket = codes "]"
+symbol_text Less = codes "<"
+symbol_text Greater = codes ">"
+symbol_text Equal = codes "="
+symbol_text Colon = codes ":"
+symbol_text Semicolon = codes ";"
+symbol_text Comma = codes ","
+symbol_text Dot = codes "."
+symbol_text Bang = codes "!"
+symbol_text Question = codes "?"
+symbol_text Plus = codes "+"
+symbol_text Minus = codes "-"
+symbol_text Star = codes "*"
+symbol_text Slash = codes "/"
+symbol_text At = codes "@"

@@ -1,0 +1,6 @@
+pub mod Characters
+pub mod Colours
+pub mod Numbers
+pub mod Printed
+pub mod Steps
+pub mod Strings
