@@ -1,1 +1,4 @@
 pub mod Lookups
+pub mod PenSteps
+pub mod Pens
+pub mod Sizes

@@ -4,5 +4,5 @@
 mod measuring;
 mod tables;
 
-pub use measuring::Size;
+pub use measuring::{Size, measure};
 pub use tables::TextTable;
