@@ -1,6 +1,7 @@
 pub mod Cuts
 pub mod Following
 pub mod Ints
+pub mod LineCuts
 pub mod Naming
 pub mod Returns
 pub mod Rows

@@ -5,12 +5,14 @@ mod commands;
 mod lines;
 mod numbers;
 mod paths;
+mod splitting;
 mod words;
 
 pub use commands::{BadLine, Command, Path, PathStep};
 pub use lines::read_line;
 pub use numbers::read_int;
 pub use paths::read_path;
+pub use splitting::{cut_line, whole_part};
 
 #[cfg(test)]
 mod tests;

@@ -3,8 +3,8 @@ ghost use Rattle.script_lines.specs.Lines.{line_reading, read_text, read_words, 
 
 use crate::paths::read_path;
 use crate::words::{is_passed_over, split_word, trimmed};
-use slint_base::{End, Text};
 use crate::{BadLine, Command};
+use slint_base::{End, Text};
 use std::alloc::Global;
 
 /// The most bytes that a line has, without its end.

@@ -3,8 +3,8 @@ ghost use Rattle.std.specs.List.{slice_split};
 ghost use Rattle.std.specs.Option.{option_map};
 ghost use Rattle.script_lines.specs.Paths.{is_path_name, before_bracket, from_bracket, before_close, bracketed, row_number, row_of, step_of, steps_of, path_from, path_of};
 
-use slint_base::{Memory, Name};
 use crate::{Path, PathStep};
+use slint_base::{Memory, Name};
 use sqlite_items::Items;
 use std::alloc::Global;
 use unicode_ident::{is_xid_continue, is_xid_start};

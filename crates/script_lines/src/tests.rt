@@ -1,5 +1,5 @@
-use slint_base::{End, Memory};
 use crate::{BadLine, Command, Path, read_int, read_line};
+use slint_base::{End, Memory};
 use std::alloc::Global;
 use std::test::Fail;
 

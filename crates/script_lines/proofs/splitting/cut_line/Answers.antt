@@ -1,7 +1,7 @@
 use Rattle.std.proofs.Common.{◌+◌, length, arith, add-one}
 use Rattle.std.proofs.Math.Seq.{drop-length}
-use Rattle.slint_cli.proofs.LineCuts.{lines_of-first, lines_of-last, rest_from}
-use Rattle.slint_cli.proofs.script.cut_line.Goals as goal
+use Rattle.script_lines.proofs.LineCuts.{lines_of-first, lines_of-last, rest_from}
+use Rattle.script_lines.proofs.splitting.cut_line.Goals as goal
 
 pub returns-then-b-eq10-clause-lines : goal.returns-then-b-eq10-clause-lines
 returns-then-b-eq10-clause-lines c =

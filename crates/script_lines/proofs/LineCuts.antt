@@ -4,7 +4,7 @@ use Rattle.std.proofs.lemmas.Bool.{ne_eqb}
 use Rattle.std.proofs.lemmas.List.{take_more, length-drop}
 use Rattle.std.proofs.Math.Seq.{take-length}
 use Rattle.std.proofs.lemmas.Bool.Decides.{eqb_tells}
-use Rattle.slint_meaning.specs.Lines.{lines_of, whole_lines, onto_first, onto_whole}
+use Rattle.script_lines.specs.Lines.{lines_of, whole_lines, onto_first, onto_whole}
 
 -- a line feed ends a line
 lines_of-feed : (b : ℕ) (bs : List ℕ) → b ≡ 10 → lines_of (b ∷ bs) ≡ [] ∷ lines_of bs

@@ -1,8 +1,8 @@
 use Rattle.std.proofs.Common.{◌≡◌, ◌+◌, ◌-◌, ap, sym, ◌∙◌, take, arith}
-use Rattle.slint_meaning.specs.Lines.{lines_of, whole_lines}
-use Rattle.slint_cli.proofs.LineCuts.{whole_lines-take, lines_of-take}
-use Rattle.slint_cli.proofs.script.whole_part.Goals as goal
-use Rattle.slint_cli.proofs.script.whole_part.Goals.{then-loop-end-test+else-text-end-ne10, else-loop-end-test}
+use Rattle.script_lines.specs.Lines.{lines_of, whole_lines}
+use Rattle.script_lines.proofs.LineCuts.{whole_lines-take, lines_of-take}
+use Rattle.script_lines.proofs.splitting.whole_part.Goals as goal
+use Rattle.script_lines.proofs.splitting.whole_part.Goals.{then-loop-end-test+else-text-end-ne10, else-loop-end-test}
 
 pub loop-end-preserved : goal.loop-end-preserved
 loop-end-preserved c =

@@ -1,6 +1,6 @@
 use Rattle.std.proofs.Common.{◌≡◌, ◌≤◌, length, take}
-use Rattle.slint_meaning.specs.Lines.{whole_lines}
-use Rattle.slint_cli.proofs.script.whole_part.Given as goal
+use Rattle.script_lines.specs.Lines.{whole_lines}
+use Rattle.script_lines.proofs.splitting.whole_part.Given as goal
 
 -- what was left out ends no line
 abbrev pub invariant-loop-end : goal.invariant-loop-end

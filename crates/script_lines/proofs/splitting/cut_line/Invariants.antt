@@ -1,5 +1,5 @@
 use Rattle.std.proofs.Common.{◌≡◌, ℕ, ◌<◌, get_or}
-use Rattle.slint_cli.proofs.script.cut_line.Given as goal
+use Rattle.script_lines.proofs.splitting.cut_line.Given as goal
 
 -- no line feed was passed
 abbrev pub invariant-loop-i : goal.invariant-loop-i
