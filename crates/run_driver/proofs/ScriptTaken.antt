@@ -5,10 +5,10 @@ use Rattle.std.specs.Io.KnownBytes.{Consumes, IsAtEnd}
 use Rattle.std.proofs.lemmas.Bool.Decides.{leb_tells}
 use Rattle.std.proofs.lemmas.List.{take-append-le}
 use Rattle.slint_parser.specs.declared.trees.FirstFile.{FirstFile}
-use Rattle.slint_meaning.specs.Lines.{whole_lines}
+use Rattle.script_lines.specs.Lines.{whole_lines}
 use Rattle.slint_meaning.specs.Runs.{Outcome, run_script, run_lines, most_script, cut_off}
 use Rattle.slint_meaning.specs.Values.{opening_world}
-use Rattle.slint_cli.specs.Running.{RanScript}
+use Rattle.run_driver.specs.Running.{RanScript}
 
 -- of a script that is too long the front counts
 run_script-long : (file : FirstFile) (script : List ℕ) → nat_le (length script) most_script ≡ false

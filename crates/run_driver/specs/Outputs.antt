@@ -1,7 +1,7 @@
--- An outcome that the program made, as the definition's.
+-- What the program made for a run to write, as the run's outcome.
 use Rattle.slint_meaning.specs.Runs.{Outcome}
-use Rattle.slint_cli.specs.declared.replies.Outcome.{Outcome as Made}
+use Rattle.run_driver.specs.declared.replies.Output.{Output}
 
 -- its end and its bytes
-abbrev pub outcome_of : Made → Outcome
-outcome_of made = record { end = made.end; bytes = made.bytes.items }
+abbrev pub outcome_of : Output → Outcome
+outcome_of output = record { end = output.end; bytes = output.bytes.items }

@@ -4,8 +4,8 @@ use Rattle.slint_parser.specs.declared.trees.FirstFile.{FirstFile}
 use Rattle.slint_meaning.specs.Commands.{Turn, goes_on, halts, Target, nothing, root, property}
 use Rattle.slint_meaning.specs.Sources.{names_of}
 use Rattle.first_evaluator.specs.Live.{Live, Shows}
-use Rattle.slint_cli.specs.declared.answers.Target.{Target as Found}
-use Rattle.slint_cli.specs.declared.answers.Target.TheVariants.{Nothing, Root, Property}
+use Rattle.run_driver.specs.declared.answers.Target.{Target as Found}
+use Rattle.run_driver.specs.declared.answers.Target.TheVariants.{Nothing, Root, Property}
 
 -- what a line answered and left is that turn: its bytes at the end of what is written, and its world
 abbrev pub Answers : Turn → List ℕ → List ℕ → Live → Type 0

@@ -1,37 +1,38 @@
 //! The program `slintrun`: a source and a script in, replies out.
 #![tactic(auto)]
 
-mod answers;
-mod judging;
-mod replies;
-mod running;
-mod script;
-mod status;
-#[cfg(test)]
-mod tests;
-mod top;
-
 use io_edge::{DiskFiles, StreamSink, StreamSource};
-pub use status::Status;
+use run_driver::{Status, Stop, slint_run};
+use std::alloc::Global;
+use std::io::ErrorKind;
 use std::process::ExitCode;
 use std::{env, io};
-pub use top::slint_run;
+
+/// The words of the command line. Where one of them is no text there are none, since such words can't be read either.
+fn words_of(alloc: Global, args: io::Result<env::Args>) -> Result<Vec<String>, Stop> {
+    match args {
+        Ok(args) => Ok(args.collect(alloc)?),
+        Err(e) if e.kind() == ErrorKind::OutOfMemory => Err(Stop::Memory),
+        Err(_) => Ok(Vec::new(alloc)),
+    }
+}
 
 /// Runs the words over the files of the disk, with the script on standard input and the replies on standard output.
 fn main(rt: HostRuntime) -> ExitCode {
-    let mut words = Vec::new(rt.alloc());
-    let Ok(args) = env::args(&rt) else {
-        return ExitCode::from(Status::Words.number());
-    };
-    for word in args {
-        if words.push(word).is_err() {
-            return ExitCode::from(Status::Memory.number());
-        }
-    }
-    let mut script = StreamSource::new(rt.stdin());
-    let mut out = StreamSink::new(rt.stdout());
     let alloc = rt.alloc();
-    let mut files = DiskFiles::new(rt);
-    let status = slint_run(alloc, words, &mut files, &mut script, &mut out);
+    let status = match words_of(alloc, env::args(&rt)) {
+        Err(stop) => Status::Stopped(stop),
+        Ok(words) => {
+            let mut script = StreamSource::new(rt.stdin());
+            let mut out = StreamSink::new(rt.stdout());
+            slint_run(
+                alloc,
+                words,
+                &mut DiskFiles::new(&rt),
+                &mut script,
+                &mut out,
+            )
+        }
+    };
     ExitCode::from(status.number())
 }

@@ -70,6 +70,10 @@ HasVerdict (Some bytes) (rejected fault) = (fault ≡ at_start NotBuilt main_fil
 abbrev pub verdict_line : List ℕ → List ℕ → Fault → List ℕ
 verdict_line name bytes fault = written (refusal_line (refusal_of name bytes fault))
 
+-- the line of a main file that isn't there
+abbrev pub missing_line : List ℕ → List ℕ
+missing_line name = verdict_line name [] (at_start FileMissing main_file)
+
 -- a run whose main file has this name, these bytes and this verdict
 abbrev pub run_verdict : List ℕ → List ℕ → Verdict → List ℕ → Outcome
 run_verdict name bytes (accepted file) script = run_script file script

@@ -1,11 +1,12 @@
 use Rattle.std.proofs.Common.{◌≡◌, ℕ, List, Some, sym, ◌∙◌, rules}
 use Rattle.std.specs.Prelude.{ℤ}
 use Rattle.std.proofs.lemmas.Result.{on_ok_weaker}
-use Rattle.slint_meaning.specs.Commands.{Target, property, does_assign, does_set, int_reading, target_of}
+use Rattle.script_lines.specs.Ints.{int_reading}
+use Rattle.slint_meaning.specs.Commands.{Target, property, does_assign, does_set, target_of}
 use Rattle.slint_meaning.specs.Values.{World}
 use Rattle.first_evaluator.specs.Live.{Live}
-use Rattle.slint_cli.specs.Turns.{Answers}
-use Rattle.slint_cli.proofs.answers.answer_set.Goals as goal
+use Rattle.run_driver.specs.Turns.{Answers}
+use Rattle.run_driver.proofs.answers.answer_set.Goals as goal
 
 -- an assignment is what `set` does at a property where the text reads as that value
 Answers-set : (world : World) (target : Target) (name text : List ℕ) (value : ℤ) (out now : List ℕ) (live : Live)

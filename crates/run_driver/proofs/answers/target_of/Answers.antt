@@ -1,11 +1,11 @@
 use Rattle.std.proofs.Common.{◌≡◌, true, List, [], ◌∷◌, length, get_or, arith, rules, refl, is_none, codes}
 use Rattle.std.specs.Str.{bytes_eq}
 use Rattle.slint_parser.specs.declared.trees.FirstFile.{FirstFile}
-use Rattle.slint_meaning.specs.declared.commands.PathStep.{PathStep}
+use Rattle.script_lines.specs.declared.commands.PathStep.{PathStep}
 use Rattle.slint_meaning.specs.Commands.{target_of, property}
 use Rattle.slint_meaning.specs.Sources.{has_name, names_of}
-use Rattle.slint_cli.proofs.NameLookups.{has_name-at}
-use Rattle.slint_cli.proofs.answers.target_of.Goals as goal
+use Rattle.run_driver.proofs.NameLookups.{has_name-at}
+use Rattle.run_driver.proofs.answers.target_of.Goals as goal
 
 -- the path of two parts, the first of which is `root`
 target_of-property : (file : FirstFile) (path : List PathStep) (first second : PathStep) → length path ≡ 2 → first ≡ get_or path 0 first → second ≡ get_or path 1 second

@@ -1,7 +1,7 @@
 use Rattle.std.proofs.Common.{arith, ap, ◌∙◌}
 use Rattle.slint_meaning.specs.Runs.{run_script}
-use Rattle.slint_cli.proofs.ScriptTaken.{ran_taken}
-use Rattle.slint_cli.proofs.running.run_component.Goals as goal
+use Rattle.run_driver.proofs.ScriptTaken.{ran_taken}
+use Rattle.run_driver.proofs.running.run_component.Goals as goal
 
 pub returns-clause-ran : goal.returns-clause-ran
 returns-clause-ran g c =

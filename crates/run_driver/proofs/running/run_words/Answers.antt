@@ -1,8 +1,8 @@
 use Rattle.std.proofs.Common.{map, string_bytes}
 use Rattle.slint_meaning.specs.Runs.{file_word}
-use Rattle.slint_cli.specs.Made.{outcome_of}
-use Rattle.slint_cli.proofs.FilesFound.{ran_unreadable}
-use Rattle.slint_cli.proofs.running.run_words.Goals as goal
+use Rattle.run_driver.specs.Outputs.{outcome_of}
+use Rattle.run_driver.proofs.FilesFound.{ran_unreadable}
+use Rattle.run_driver.proofs.running.run_words.Goals as goal
 
 pub returns-in_ok-unreadable-in-None-clause-ran : goal.returns-in_ok-unreadable-in-None-clause-ran
 returns-in_ok-unreadable-in-None-clause-ran g c =

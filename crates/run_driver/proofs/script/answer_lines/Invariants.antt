@@ -1,9 +1,9 @@
 use Rattle.std.proofs.Common.{◌≡◌, length}
-use Rattle.slint_meaning.specs.Lines.{lines_of}
+use Rattle.script_lines.specs.Lines.{lines_of}
 use Rattle.slint_meaning.specs.Runs.{Outcome, behind, run_lines}
 use Rattle.slint_meaning.specs.Values.{World}
 use Rattle.first_evaluator.specs.Live.{Shows}
-use Rattle.slint_cli.proofs.script.answer_lines.Given as goal
+use Rattle.run_driver.proofs.script.answer_lines.Given as goal
 
 -- what is written and what the rest comes to is what all lines come to, whatever follows them
 abbrev pub invariant-loop-rest : goal.invariant-loop-rest
