@@ -7,17 +7,17 @@ use Rattle.std.proofs.lemmas.Bool.Decides.{eqb_tells}
 use Rattle.script_lines.specs.Lines.{lines_of, whole_lines, onto_first, onto_whole}
 
 -- a line feed ends a line
-lines_of-feed : (b : ℕ) (bs : List ℕ) → b ≡ 10 → lines_of (b ∷ bs) ≡ [] ∷ lines_of bs
+pub lines_of-feed : (b : ℕ) (bs : List ℕ) → b ≡ 10 → lines_of (b ∷ bs) ≡ [] ∷ lines_of bs
 lines_of-feed b bs e = rw (eq-eqb b 10 e) refl
 
 -- every other byte goes onto the first line
-lines_of-other : (b : ℕ) (bs : List ℕ) → (b ≡ 10 → ⊥) → lines_of (b ∷ bs) ≡ onto_first b (lines_of bs)
+pub lines_of-other : (b : ℕ) (bs : List ℕ) → (b ≡ 10 → ⊥) → lines_of (b ∷ bs) ≡ onto_first b (lines_of bs)
 lines_of-other b bs n = rw (ne_eqb b 10 n) refl
 
-whole_lines-feed : (b : ℕ) (bs : List ℕ) → b ≡ 10 → whole_lines (b ∷ bs) ≡ [] ∷ whole_lines bs
+pub whole_lines-feed : (b : ℕ) (bs : List ℕ) → b ≡ 10 → whole_lines (b ∷ bs) ≡ [] ∷ whole_lines bs
 whole_lines-feed b bs e = rw (eq-eqb b 10 e) refl
 
-whole_lines-other : (b : ℕ) (bs : List ℕ) → (b ≡ 10 → ⊥) → whole_lines (b ∷ bs) ≡ onto_whole b (whole_lines bs)
+pub whole_lines-other : (b : ℕ) (bs : List ℕ) → (b ≡ 10 → ⊥) → whole_lines (b ∷ bs) ≡ onto_whole b (whole_lines bs)
 whole_lines-other b bs n = rw (ne_eqb b 10 n) refl
 
 -- a text is cut at its first line feed

@@ -2,6 +2,7 @@
 #![tactic(auto)]
 
 mod commands;
+mod laws;
 mod lines;
 mod numbers;
 mod paths;
@@ -9,6 +10,7 @@ mod splitting;
 mod words;
 
 pub use commands::{BadLine, Command, Path, PathStep};
+pub use laws::{a_written_path_is_read, lines_are_parts, whole_lines_are_parts};
 pub use lines::read_line;
 pub use numbers::read_int;
 pub use paths::read_path;
