@@ -1,11 +1,16 @@
 ghost use Rattle.std.specs.Prelude.{◌≡◌, ◌<◌, [], Some, map, string_bytes};
 ghost use Rattle.io_edge.specs.FileList.{file_list};
-ghost use Rattle.slint_cli.specs.Endings.{EndsAs, IsOwnStatus};
+ghost use Rattle.run_driver.specs.Statuses.{EndsAs, IsOwnStatus};
 
-use crate::{Status, slint_run};
 use io_edge::{MemFiles, MemSink, MemSource, Sink};
+use run_driver::{Status, Stop, slint_run};
+use slint_meaning::Ending;
 use std::alloc::{AllocError, Global};
 use std::test::Fail;
+
+const DONE: Status = Status::Ended(Ending::Done);
+
+const REFUSED: Status = Status::Ended(Ending::Refused);
 
 /// What a run is given: the words behind the program's name, the main file's text, the script, the most bytes that a call
 /// moves, and the numbers of the calls that fail.
@@ -26,6 +31,7 @@ struct Came {
     status: Status,
     bytes: Vec<u8>,
     left: usize,
+    misses: u64,
 }
 
 impl<'w, 'm, 's> Given<'w, 'm, 's> {
@@ -65,10 +71,12 @@ impl<'w, 'm, 's> Given<'w, 'm, 's> {
         let status = slint_run(alloc, words, &mut files, &mut script, &mut out);
         let bytes = Vec::from_slice(alloc, out.bytes())?;
         let left = script.left().len();
+        let misses = files.misses();
         Ok(Came {
             status,
             bytes,
             left,
+            misses,
         })
     }
 }
@@ -141,7 +149,7 @@ fn answers_scripts(rt: HostRuntime) -> Result<(), Fail> {
         )
         .run(rt.alloc())?;
         assert_eq!(rt; came.bytes.as_slice(), want.as_bytes(), "{script}");
-        assert!(rt; came.status == Status::Done, "{script}");
+        assert!(rt; came.status == DONE, "{script}");
     }
     // Bytes that are no text: passed over in a comment, and refused elsewhere.
     let source = component(rt.alloc(), FIRST)?;
@@ -162,83 +170,85 @@ fn judges_sources(rt: HostRuntime) -> Result<(), Fail> {
         (
             ["main.slint"].as_slice(),
             Some("component A { }"),
-            Status::Done,
+            DONE,
             "refused 3\n",
         ),
         (
             &["main.slint"],
             Some("component A {\r\n property<int>true:1; } "),
-            Status::Done,
+            DONE,
             "refused 3\n",
         ),
         (
             &["main.slint"],
             Some(""),
-            Status::Refused,
+            REFUSED,
             "refused 90 main.slint 1:1-1:1\n",
         ),
         (
             &["main.slint"],
             None,
-            Status::Refused,
+            REFUSED,
             "refused 20 main.slint 1:1-1:1\n",
         ),
         (
             &["other.slint"],
             Some("component A { }"),
-            Status::Refused,
+            REFUSED,
             "refused 20 other.slint 1:1-1:1\n",
         ),
         (
             &["main.slint"],
             Some("component A { property <int> a: zz; }"),
-            Status::Refused,
+            REFUSED,
             "refused 90 main.slint 1:1-1:1\n",
         ),
         (
             &["main.slint"],
             Some("component A { property <int> a: a; }"),
-            Status::Refused,
+            REFUSED,
             "refused 90 main.slint 1:1-1:1\n",
         ),
         (
             &["main.slint"],
             Some("component A { property <int> a: 1; property <int> a: 1; }"),
-            Status::Refused,
+            REFUSED,
             "refused 90 main.slint 1:1-1:1\n",
         ),
         (
             &["main.slint"],
             Some("component A { property <int> self: 1; property <int> a: self; }"),
-            Status::Refused,
+            REFUSED,
             "refused 90 main.slint 1:1-1:1\n",
         ),
         (
             &["main.slint"],
             Some("component A { property <int> a: 2147483648; }"),
-            Status::Refused,
+            REFUSED,
             "refused 90 main.slint 1:1-1:1\n",
         ),
         (
             &["main.slint"],
             Some("component A { } // no"),
-            Status::Refused,
+            REFUSED,
             "refused 90 main.slint 1:1-1:1\n",
         ),
-        (&[], Some("component A { }"), Status::Words, "words\n"),
+        (&[], Some("component A { }"), Status::Ended(Ending::Words), "words\n"),
         (
             &["main.slint", "x"],
             Some("component A { }"),
-            Status::Words,
+            Status::Ended(Ending::Words),
             "words\n",
         ),
-        (&["-x"], Some("component A { }"), Status::Words, "words\n"),
+        (&["-x"], Some("component A { }"), Status::Ended(Ending::Words), "words\n"),
     ] {
         let given = Given::quiet(rt.alloc(), words, source, b"get root");
         let came = given.run(rt.alloc())?;
         assert_eq!(rt; came.bytes.as_slice(), want.as_bytes(), "{source:?}");
         assert!(rt; came.status == status, "{source:?}");
-        assert_eq!(rt; came.left == 0, status == Status::Done, "{source:?}");
+        assert_eq!(rt; came.left == 0, status == DONE, "{source:?}");
+        let missed = want.starts_with("refused 20 ");
+        assert_eq!(rt; came.misses, u64::from(missed), "{source:?}");
     }
     Ok(())
 }
@@ -282,8 +292,8 @@ fn keeps_the_limits(rt: HostRuntime) -> Result<(), Fail> {
         }
     }
     for (count, status, want) in [
-        (16_777_216, Status::Done, ""),
-        (16_777_217, Status::ScriptLong, "stopped 8\n"),
+        (16_777_216, DONE, ""),
+        (16_777_217, Status::Ended(Ending::ScriptLong), "stopped 8\n"),
     ] {
         let script = repeated(rt.alloc(), b'\n', count)?;
         let mut given = Given::quiet(rt.alloc(), &["main.slint"], Some(source.as_str()), &script);
@@ -292,7 +302,7 @@ fn keeps_the_limits(rt: HostRuntime) -> Result<(), Fail> {
         assert_eq!(rt; came.bytes.as_slice(), want.as_bytes(), "{count}");
         assert!(rt; came.status == status, "{count}");
     }
-    for (count, status) in [(262_144, Status::Done), (262_145, Status::Refused)] {
+    for (count, status) in [(262_144, DONE), (262_145, REFUSED)] {
         let mut long = String::from_str(rt.alloc(), "component A { }")?;
         for _ in 15..count {
             long.push(' ')?;
@@ -301,6 +311,57 @@ fn keeps_the_limits(rt: HostRuntime) -> Result<(), Fail> {
             rt.alloc(),
         )?;
         assert!(rt; came.status == status, "{count}");
+    }
+    Ok(())
+}
+
+/// The most bytes of a script.
+const MOST_SCRIPT: usize = 16_777_216;
+
+/// That many bytes, at least two: lines of comments, the last of which ends there.
+fn comments(alloc: Global, count: usize) -> Result<Vec<u8>, AllocError> {
+    let mut bytes = vec![in alloc; b'x'; count]?;
+    for (at, byte) in bytes.iter_mut().enumerate() {
+        let before = count - at;
+        *byte = match before % 4000 {
+            1 => b'\n',
+            _ => b'/',
+        };
+    }
+    Ok(bytes)
+}
+
+#[test]
+fn runs_the_lines_that_end_within_the_limit(rt: HostRuntime) -> Result<(), Fail> {
+    let source = component(rt.alloc(), FIRST)?;
+    let too_long = Status::Ended(Ending::ScriptLong);
+    for (front, tail, status, want) in [
+        (10, "get root.b", DONE, "6\n"),
+        (10, "get root.b\n", too_long, "stopped 8\n"),
+        (11, "get root.b\n", DONE, "6\n"),
+        (11, "get root.b\nx", too_long, "6\nstopped 8\n"),
+        (11, "get root.b\n\n", too_long, "6\nstopped 8\n"),
+        (5, "get root.b\nget root.b\n", too_long, "stopped 8\n"),
+        (
+            14,
+            "set root.a 5\nget root.b\n",
+            too_long,
+            "ok\nstopped 8\n",
+        ),
+        (
+            30,
+            "set root.a 5\nget root.b\nget rootget root.b",
+            too_long,
+            "ok\n15\nstopped 8\n",
+        ),
+    ] {
+        let mut script = comments(rt.alloc(), MOST_SCRIPT.saturating_sub(front))?;
+        script.extend_from_slice(tail.as_bytes())?;
+        let mut given = Given::quiet(rt.alloc(), &["main.slint"], Some(source.as_str()), &script);
+        given.piece = 100_000;
+        let came = given.run(rt.alloc())?;
+        assert_eq!(rt; came.bytes.as_slice(), want.as_bytes(), "{front} {tail}");
+        assert!(rt; came.status == status, "{front} {tail}");
     }
     Ok(())
 }
@@ -340,9 +401,9 @@ fn ends_at_each_failing_call(rt: HostRuntime) -> Result<(), Fail> {
         given.files_fail.push(call)?;
         let came = given.run(rt.alloc())?;
         let status = if call == 0 {
-            Status::ReadFault
+            Status::Stopped(Stop::ReadFault)
         } else {
-            Status::Done
+            DONE
         };
         assert!(rt; came.status == status, "files {call}");
         assert_eq!(rt; came.bytes.is_empty(), call == 0, "files {call}");
@@ -358,9 +419,9 @@ fn ends_at_each_failing_call(rt: HostRuntime) -> Result<(), Fail> {
         let came = given.run(rt.alloc())?;
         let fails = call <= script.len() as u64;
         let status = if fails {
-            Status::ReadFault
+            Status::Stopped(Stop::ReadFault)
         } else {
-            Status::Done
+            DONE
         };
         assert!(rt; came.status == status, "script {call}");
         assert_eq!(rt; came.bytes.is_empty(), fails, "script {call}");
@@ -376,9 +437,9 @@ fn ends_at_each_failing_call(rt: HostRuntime) -> Result<(), Fail> {
         let came = given.run(rt.alloc())?;
         let fails = call < whole.len() as u64;
         let status = if fails {
-            Status::SinkFault
+            Status::Stopped(Stop::SinkFault)
         } else {
-            Status::Done
+            DONE
         };
         assert!(rt; came.status == status, "out {call}");
         assert_eq!(rt;
@@ -420,6 +481,21 @@ fn comes_to_its_outcome(rt: HostRuntime) -> Result<(), Fail> {
     let script = Vec::from_slice(rt.alloc(), b"get root.b")?;
     let (status, out) = run_in_memory(rt.alloc(), words, files, script, 1);
     assert_eq!(rt; out.bytes(), b"6\n".as_slice());
-    assert!(rt; status == Status::Done);
+    assert!(rt; status == DONE);
     Ok(())
+}
+
+#[test]
+fn each_status_has_its_number(rt: HostRuntime) {
+    for (status, number) in [
+        (DONE, 0),
+        (Status::Stopped(Stop::Memory), 1),
+        (Status::Ended(Ending::Words), 2),
+        (REFUSED, 3),
+        (Status::Stopped(Stop::ReadFault), 6),
+        (Status::Stopped(Stop::SinkFault), 7),
+        (Status::Ended(Ending::ScriptLong), 8),
+    ] {
+        assert_eq!(rt; status.number(), number, "{status:?}");
+    }
 }
