@@ -23,7 +23,12 @@ fn gave(found: Result<Found, FilesEnd>, bytes: &[u8]) -> bool {
 fn reads_files_by_their_content(rt: HostRuntime) -> Result<(), Fail> {
     let alloc: Global = rt.alloc();
     let mut files = DiskFiles::new(&rt);
-    for (name, count) in [("short", 5), ("whole", 262_144), ("cut", 262_146), ("empty", 0)] {
+    for (name, count) in [
+        ("short", 5),
+        ("whole", 262_144),
+        ("cut", 262_146),
+        ("empty", 0),
+    ] {
         let path = fresh_path(&rt, name)?;
         let mut bytes = vec![in alloc; b'x'; count]?;
         for (at, byte) in bytes.iter_mut().enumerate() {

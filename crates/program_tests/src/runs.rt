@@ -233,14 +233,24 @@ fn judges_sources(rt: HostRuntime) -> Result<(), Fail> {
             REFUSED,
             "refused 90 main.slint 1:1-1:1\n",
         ),
-        (&[], Some("component A { }"), Status::Ended(Ending::Words), "words\n"),
+        (
+            &[],
+            Some("component A { }"),
+            Status::Ended(Ending::Words),
+            "words\n",
+        ),
         (
             &["main.slint", "x"],
             Some("component A { }"),
             Status::Ended(Ending::Words),
             "words\n",
         ),
-        (&["-x"], Some("component A { }"), Status::Ended(Ending::Words), "words\n"),
+        (
+            &["-x"],
+            Some("component A { }"),
+            Status::Ended(Ending::Words),
+            "words\n",
+        ),
     ] {
         let given = Given::quiet(rt.alloc(), words, source, b"get root");
         let came = given.run(rt.alloc())?;
