@@ -13,7 +13,6 @@ pub use commands::{BadLine, Command, Path, PathStep};
 pub use laws::{a_written_path_is_read, lines_are_parts, whole_lines_are_parts};
 pub use lines::read_line;
 pub use numbers::read_int;
-pub use paths::read_path;
 pub use splitting::{cut_line, whole_part};
 
 #[cfg(test)]
