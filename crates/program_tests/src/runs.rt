@@ -1,9 +1,9 @@
 ghost use Rattle.std.specs.Prelude.{◌≡◌, ◌<◌, [], Some, map, string_bytes};
 ghost use Rattle.io_edge.specs.FileList.{file_list};
-ghost use Rattle.run_driver.specs.Statuses.{EndsAs, IsOwnStatus};
+ghost use Rattle.slint_cli.specs.Statuses.{EndsAs, IsOwnStatus};
 
 use io_edge::{MemFiles, MemSink, MemSource, Sink};
-use run_driver::{Status, Stop, slint_run};
+use slint_cli::{Status, Stop, slint_run};
 use slint_meaning::Ending;
 use std::alloc::{AllocError, Global};
 use std::test::Fail;
