@@ -5,3 +5,4 @@ pub mod Options
 pub mod Places
 pub mod Refusals
 pub mod Rules
+pub mod Texts
