@@ -9,10 +9,10 @@ use Rattle.std.proofs.lemmas.List.Elements.{All-nil, All-cons}
 use Rattle.std.proofs.lemmas.Option.{get_or_from_slice_get, slice_get_within}
 use mathlib.Core.List.{reverse_aux}
 use Rattle.slint_base.specs.Numbers.{greatest_int, to_int}
-use Rattle.slint_parser.specs.declared.trees.Factor.{Factor}
-use Rattle.slint_parser.specs.declared.trees.Factor.TheVariants.{Lit, Named}
-use Rattle.slint_parser.specs.declared.trees.FirstProp.{FirstProp}
-use Rattle.slint_parser.specs.declared.trees.FirstFile.{FirstFile}
+use Rattle.first_parser.specs.declared.trees.Factor.{Factor}
+use Rattle.first_parser.specs.declared.trees.Factor.TheVariants.{Lit, Named}
+use Rattle.first_parser.specs.declared.trees.FirstProp.{FirstProp}
+use Rattle.first_parser.specs.declared.trees.FirstFile.{FirstFile}
 use Rattle.slint_base.specs.Options.{onto_all, all_of}
 use Rattle.slint_meaning.specs.Sources.{are_bound, has_name, is_sum_bound, names_of, reserved_words}
 use Rattle.slint_meaning.specs.Values.{World, opening_world, assign, assignment, factor_value, product_value, sum_value, assigned_or, value_among, property_value}

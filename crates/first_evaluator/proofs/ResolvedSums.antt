@@ -16,10 +16,10 @@ use Rattle.slint_base.specs.declared.rules.Rule.TheVariants.{NotBuilt}
 use Rattle.slint_base.specs.Numbers.{greatest_int}
 use Rattle.slint_base.specs.Refusals.{at_start}
 use Rattle.slint_meaning.specs.Runs.{main_file}
-use Rattle.slint_parser.specs.declared.trees.Factor.{Factor}
-use Rattle.slint_parser.specs.declared.trees.Factor.TheVariants.{Lit, Named}
-use Rattle.slint_parser.specs.declared.trees.FirstProp.{FirstProp}
-use Rattle.slint_parser.specs.declared.trees.FirstFile.{FirstFile}
+use Rattle.first_parser.specs.declared.trees.Factor.{Factor}
+use Rattle.first_parser.specs.declared.trees.Factor.TheVariants.{Lit, Named}
+use Rattle.first_parser.specs.declared.trees.FirstProp.{FirstProp}
+use Rattle.first_parser.specs.declared.trees.FirstFile.{FirstFile}
 use Rattle.slint_base.specs.Options.{onto_all, all_of}
 use Rattle.slint_meaning.specs.Sources.{are_bound, has_name, is_factor_bound, is_sum_bound, names_of, reserved_words}
 use Rattle.first_evaluator.specs.declared.resolving.Operand.{Operand}

@@ -1,6 +1,6 @@
 -- What the evaluator holds, and the world that it stands for.
 use Rattle.std.specs.Prelude.{◌≡◌, ℤ, List, map, Option}
-use Rattle.slint_parser.specs.declared.trees.FirstFile.{FirstFile}
+use Rattle.first_parser.specs.declared.trees.FirstFile.{FirstFile}
 use Rattle.slint_meaning.specs.Values.{World, assignment}
 
 -- a component's tree, and for each property in the order of the text the value that was assigned last

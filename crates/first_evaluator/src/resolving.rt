@@ -7,7 +7,7 @@ ghost use Rattle.first_evaluator.specs.Resolved.{operand_of, product_of, resolut
 
 use slint_base::{End, Fault, Memory, Name, Rule, at_start};
 use slint_meaning::MAIN_FILE;
-use slint_parser::{Factor, FirstFile};
+use first_parser::{Factor, FirstFile};
 use sqlite_items::Items;
 use std::alloc::Global;
 use std::collections::BTreeMap;
@@ -99,7 +99,7 @@ pub struct Component {
 }
 
 impl Model for Component {
-    ghost use Rattle.slint_parser.specs.declared.trees.FirstFile.{FirstFile};
+    ghost use Rattle.first_parser.specs.declared.trees.FirstFile.{FirstFile};
 
     ghost Value = { FirstFile };
 

@@ -1,13 +1,12 @@
 -- What every way of sizing keeps to.
-use Rattle.std.proofs.Common.{◌≡◌, ℕ, ◌+◌, ◌*◌, ◌^◌, ◌<◌, ◌≤◌, ℤ, pos, neg_ℤ, ◌+ℤ◌, ◌-ℤ◌, ◌*ℤ◌, ◌≤ℤ◌, Bool, true, false, sym, ap, ◌∙◌, refl, cond, arith, rules}
+use Rattle.std.proofs.Common.{◌≡◌, ℕ, ℤ, pos, ◌+ℤ◌, ◌-ℤ◌, ◌*ℤ◌, ◌≤ℤ◌, Bool, true, false, refl, cond, arith}
 use Rattle.std.proofs.lemmas.Int.{ints, clamps}
 use Rattle.std.specs.Prelude.{int_le}
-use Rattle.slint_base.specs.Numbers.{most_units}
 use Rattle.layout_solve.specs.declared.items.Item.{Item}
 use Rattle.layout_solve.specs.declared.sizings.Sizing.{Sizing}
 use Rattle.layout_solve.specs.declared.sizings.Sizing.TheVariants.{Least, Preferred, Grown, Shrunk}
 use Rattle.layout_solve.specs.Items.{IsItem, IsWithinLimits}
-use Rattle.layout_solve.specs.Sizes.{weight_in, grown, shrunk, size_at, more_at}
+use Rattle.layout_solve.specs.Sizes.{weight_in, shrunk, size_at, more_at}
 use Rattle.layout_solve.proofs.ItemSizes.{weight_in-is, gain-rises, gain-none}
 
 gains : (even : Bool) (k : ℕ) (item : Item) → IsItem item → pos 0 ≤ℤ (pos k *ℤ weight_in even item)

@@ -1,5 +1,5 @@
 -- Tracks before spanning cells get what they lack.
-use Rattle.std.proofs.Common.{◌≡◌, ℕ, ◌<◌, ◌≤◌, Bool, true, false, cond, ◌||◌, List, [], ◌∷◌, map, length, get_or, All, sym, ap, ◌∙◌, refl, subst, arith}
+use Rattle.std.proofs.Common.{◌≡◌, ℕ, Bool, true, false, cond, ◌||◌, List, [], ◌∷◌, map, length, get_or, All, sym, ap, ◌∙◌, refl, subst}
 use Rattle.std.specs.List.{AllByRecursion, filter, fold, list_any, range_with_len}
 use Rattle.std.proofs.lemmas.List.{get_or_default}
 use Rattle.std.proofs.lemmas.List.Elements.{recursion_from_All}
@@ -8,7 +8,7 @@ use Rattle.layout_solve.specs.declared.items.Item.{Item}
 use Rattle.layout_solve.specs.declared.items.Cell.{Cell}
 use Rattle.layout_solve.specs.Items.{IsItem}
 use Rattle.layout_solve.specs.Tracks.{IsCell, empty_track, loose_track, least_track, greatest_item, is_alone, reaches, items_alone, first_track, track_of}
-use Rattle.layout_solve.proofs.Greatest.{greatest_item-is, greatest_item-least, empty_track-is, loose_track-is, least_track-is}
+use Rattle.layout_solve.proofs.Greatest.{greatest_item-least, empty_track-is, loose_track-is, least_track-is}
 
 -- a list with an element
 abbrev is_some_item : List Item → Bool

@@ -1,10 +1,8 @@
 -- The greatest of each number of items.
-use Rattle.std.proofs.Common.{◌≡◌, ℕ, ◌<◌, ◌≤◌, ℤ, pos, cond, eqb, List, [], ◌∷◌, length, get_or, set, All, sym, ap, ◌∙◌, ⊎_elim, refl, get_or-set_same, get_or-set_other, to_z, of_z, w64, arith}
+use Rattle.std.proofs.Common.{◌≡◌, ℕ, ◌<◌, ℤ, cond, eqb, List, length, get_or, set, sym, ◌∙◌, ⊎_elim, refl, get_or-set_same, get_or-set_other, to_z, of_z, w64, arith}
 use Rattle.std.specs.Int.{int_max}
-use Rattle.std.specs.List.{fold}
 use Rattle.std.proofs.lemmas.Int.{ints, clamps}
 use Rattle.std.proofs.lemmas.Bool.{cases_eq, eq-eqb, ne_eqb}
-use Rattle.slint_base.specs.Numbers.{most_units}
 use Rattle.layout_solve.specs.declared.items.Item.{Item}
 use Rattle.layout_solve.specs.Items.{IsItem, IsWithinLimits}
 use Rattle.layout_solve.specs.Tracks.{empty_track, loose_track, least_track, greatest_item}

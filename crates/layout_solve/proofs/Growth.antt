@@ -1,13 +1,12 @@
 -- The code's size of an item by a level is that of the definition.
-use Rattle.std.proofs.Common.{◌≡◌, ℕ, ◌^◌, ◌<◌, ◌≤◌, ℤ, pos, neg_ℤ, ◌+ℤ◌, ◌-ℤ◌, ◌*ℤ◌, ◌≤ℤ◌, Bool, sym, ap, ◌∙◌, refl, arith, FitsSigned, to_z, of_z}
+use Rattle.std.proofs.Common.{◌≡◌, ℕ, ◌^◌, ◌<◌, ℤ, pos, ◌+ℤ◌, ◌-ℤ◌, ◌*ℤ◌, Bool, ◌∙◌, arith, FitsSigned, to_z, of_z}
 use Rattle.std.specs.Int.{w64, w128, int_min, int_max}
 use Rattle.std.proofs.lemmas.Int.{ints, clamps}
-use Rattle.slint_base.specs.Numbers.{most_units}
 use Rattle.layout_solve.specs.declared.items.Item.{Item}
 use Rattle.layout_solve.specs.Items.{IsItem, IsWithinLimits}
 use Rattle.layout_solve.specs.Sizes.{weight_in, grown, shrunk}
-use Rattle.layout_solve.proofs.ItemSizes.{IsWeight, weight_in-is, gain, IsGrown, grown-is}
-use Rattle.layout_solve.proofs.Wide.{IsHeld, held_fits, kept, kept-is, kept_within, both, within-is, cast-is, cast_fits}
+use Rattle.layout_solve.proofs.ItemSizes.{IsWeight, weight_in-is, gain, grown-is}
+use Rattle.layout_solve.proofs.Wide.{IsHeld, held_fits, kept, kept-is, kept_within, both, within-is}
 
 pub item_pref : (item : Item) → IsItem item → IsWithinLimits item.pref
 item_pref item is = record { low = omega (arith, ints, is.low, is.ordered); high = omega (arith, ints, is.topped, is.high) }

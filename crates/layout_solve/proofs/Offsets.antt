@@ -1,5 +1,5 @@
 -- The loop that writes offsets.
-use Rattle.std.proofs.Common.{◌≡◌, ℕ, ◌+◌, ◌*◌, ◌^◌, ◌<◌, ◌≤◌, ℤ, pos, negsuc, neg_ℤ, ◌+ℤ◌, ◌*ℤ◌, ◌≤ℤ◌, List, [], map, length, get_or, set, take, sym, ap, ◌∙◌, map-id, refl, below_more, get_or-set_other, get_or-set_same, length-set, ◌≢◌, FitsSigned, to_z, of_z, w64, arith}
+use Rattle.std.proofs.Common.{◌≡◌, ℕ, ◌+◌, ◌*◌, ◌^◌, ◌<◌, ◌≤◌, ℤ, pos, negsuc, neg_ℤ, ◌+ℤ◌, ◌*ℤ◌, ◌≤ℤ◌, List, length, get_or, set, take, sym, ap, ◌∙◌, map-id, below_more, get_or-set_other, get_or-set_same, length-set, ◌≢◌, FitsSigned, to_z, of_z, w64, arith}
 use Rattle.std.specs.Int.{w128}
 use Rattle.std.proofs.lemmas.Int.{ints, to_z_pos, to_z-of_z}
 use Rattle.std.proofs.lemmas.List.FromFn.{fill_by_all}

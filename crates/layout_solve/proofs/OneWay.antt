@@ -1,10 +1,10 @@
 -- At most one list of sizes shares a room.
-use Rattle.std.proofs.Common.{◌≡◌, ℕ, ℤ, pos, ◌≤ℤ◌, ◌<ℤ◌, ◌≤◌, Bool, true, false, List, map, sym, ap, ◌∙◌, refl, arith, rules, le_antisymm, IsTrue, IsFalse}
+use Rattle.std.proofs.Common.{◌≡◌, ℕ, ℤ, ◌≤ℤ◌, ◌<ℤ◌, ◌≤◌, Bool, true, false, List, sym, ap, ◌∙◌, arith, rules}
 use Rattle.std.proofs.lemmas.Int.{by_lt_z}
 use Rattle.layout_solve.specs.declared.items.Item.{Item}
 use Rattle.layout_solve.specs.declared.sizings.Sizing.{Sizing}
 use Rattle.layout_solve.specs.declared.sizings.Sizing.TheVariants.{Grown, Shrunk}
-use Rattle.layout_solve.specs.Sizes.{are_weightless, preferred_sum, least_sum, IsGreatest, IsLeast, IsSizing, FitsGrown, FitsShrunk, SharesRoom, SharesOneWay, divided}
+use Rattle.layout_solve.specs.Sizes.{are_weightless, preferred_sum, least_sum, IsGreatest, IsLeast, IsSizing, FitsGrown, FitsShrunk, SharesOneWay, divided}
 
 -- there is one greatest number, and one least
 one_greatest : (P : ℕ → Type 0) (j k : ℕ) → IsGreatest P j → IsGreatest P k → j ≡ k

@@ -1,15 +1,15 @@
 -- A track that gets more least and preferred size.
-use Rattle.std.proofs.Common.{◌≡◌, ℕ, ◌^◌, ◌≤◌, ℤ, pos, negsuc, neg_ℤ, ◌+ℤ◌, ◌≤ℤ◌, sym, ap, ◌∙◌, refl, to_z, of_z, w64, arith}
-use Rattle.std.specs.Int.{w128, int_min, int_max}
-use Rattle.std.proofs.lemmas.Int.{ints, clamps, to_z-of_z}
-use Rattle.slint_base.specs.Numbers.{most_units, sat}
+use Rattle.std.proofs.Common.{◌≡◌, ◌^◌, ℤ, pos, ◌+ℤ◌, ◌≤ℤ◌, ap, ◌∙◌, to_z, of_z, w64, arith}
+use Rattle.std.specs.Int.{int_min, int_max}
+use Rattle.std.proofs.lemmas.Int.{ints, clamps}
+use Rattle.slint_base.specs.Numbers.{sat}
 use Rattle.layout_solve.specs.declared.items.Item.{Item}
 use Rattle.layout_solve.specs.Items.{IsItem, IsWithinLimits}
 use Rattle.layout_solve.specs.Tracks.{raised_track}
-use Rattle.layout_solve.proofs.Wide.{kept, within_fits}
+use Rattle.layout_solve.proofs.Wide.{kept}
 use Rattle.layout_solve.proofs.Offsets.{sat_within}
 use Rattle.layout_solve.proofs.Greatest.{same_item}
-use Rattle.layout_solve.proofs.Growth.{item_min, item_pref, item_max, item_weight}
+use Rattle.layout_solve.proofs.Growth.{item_max, item_weight}
 
 -- a raised track is an item
 pub raised_track-is : (more_min more_pref : ℤ) (track : Item) → IsItem track → IsItem (raised_track more_min more_pref track)

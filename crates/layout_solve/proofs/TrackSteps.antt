@@ -1,14 +1,13 @@
 -- Tracks, cell by cell.
-use Rattle.std.proofs.Common.{◌≡◌, ℕ, ◌+◌, ◌<◌, ◌≤◌, ℤ, Bool, true, false, cond, ◌&&◌, ◌||◌, eqb, leb, ltb, List, [], ◌∷◌, map, length, get_or, set, take, All, sym, ap, ◌∙◌, inl, inr, ⊎_elim, refl, arith, rules, get_or-set_same, get_or-set_other, length-set, take_all}
+use Rattle.std.proofs.Common.{◌≡◌, ℕ, ◌+◌, ◌<◌, ◌≤◌, Bool, true, false, cond, ◌&&◌, ◌||◌, eqb, leb, ltb, List, [], ◌∷◌, map, length, get_or, set, take, All, sym, ap, ◌∙◌, ⊎_elim, refl, arith, get_or-set_same, get_or-set_other, take_all}
 use Rattle.std.specs.List.{filter, fold, list_any}
 use Rattle.std.proofs.lemmas.Bool.{cases_eq, lt-ltb, le-ltb, eq-eqb, ne_eqb}
 use Rattle.std.proofs.lemmas.Bool.Decides.{nat_tests}
 use Rattle.std.proofs.lemmas.List.Sums.{fold_more}
-use Rattle.std.proofs.lemmas.List.{get_or_past}
 use Rattle.layout_solve.specs.declared.items.Item.{Item}
 use Rattle.layout_solve.specs.declared.items.Cell.{Cell}
 use Rattle.layout_solve.specs.Items.{IsItem}
-use Rattle.layout_solve.specs.Tracks.{empty_track, loose_track, greatest_item, is_alone, reaches, items_alone, first_track, track_of}
+use Rattle.layout_solve.specs.Tracks.{empty_track, loose_track, greatest_item, is_alone, reaches, items_alone}
 
 -- what a cell that passes a test leaves of a track: a mark
 abbrev pub marked : (Cell → Bool) → Item → Item → Cell → Item

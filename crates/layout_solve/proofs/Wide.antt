@@ -1,12 +1,8 @@
 -- What 128 bits hold of sums and products of 64.
-use Rattle.std.proofs.Common.{◌≡◌, ℕ, ◌^◌, ◌<◌, ℤ, pos, negsuc, neg_ℤ, ◌+ℤ◌, ◌-ℤ◌, ◌*ℤ◌, ◌≤ℤ◌, Bool, sym, ap, ◌∙◌, refl, arith, FitsSigned, to_z, of_z, w64}
-use Rattle.std.specs.Int.{w128, int_min, int_max}
-use Rattle.std.proofs.lemmas.Int.{ints, clamps, to_z-of_z}
-use Rattle.slint_base.specs.Numbers.{most_units}
-use Rattle.layout_solve.specs.declared.items.Item.{Item}
-use Rattle.layout_solve.specs.Items.{IsItem, IsWithinLimits}
-use Rattle.layout_solve.specs.Sizes.{weight_in, grown, shrunk}
-use Rattle.layout_solve.proofs.ItemSizes.{IsWeight, weight_in-is, gain, grown-is}
+use Rattle.std.proofs.Common.{◌≡◌, ◌^◌, ℤ, pos, negsuc, neg_ℤ, ◌+ℤ◌, ◌≤ℤ◌, ap, ◌∙◌, arith, FitsSigned, to_z, of_z, w64}
+use Rattle.std.specs.Int.{w128}
+use Rattle.std.proofs.lemmas.Int.{ints, to_z-of_z}
+use Rattle.layout_solve.specs.Items.{IsWithinLimits}
 
 -- a number far within 128 bits
 pub record IsHeld (z : ℤ) : Type 0 where

@@ -1,16 +1,15 @@
 -- Tracks that spanning cells widen.
-use Rattle.std.proofs.Common.{◌≡◌, ℕ, ◌+◌, ◌-◌, ◌*◌, ◌^◌, ◌<◌, ◌≤◌, ℤ, pos, negsuc, neg_ℤ, ◌+ℤ◌, ◌-ℤ◌, ◌*ℤ◌, ◌≤ℤ◌, Bool, true, false, List, map, length, get_or, set, take, All, sym, ap, ◌∙◌, cond, slice_range, subst, take_all, refl, to_z, of_z, w64, FitsSigned, arith}
-use Rattle.std.specs.Int.{w128, int_min, int_max}
+use Rattle.std.proofs.Common.{◌≡◌, ℕ, ◌+◌, ◌-◌, ◌^◌, ◌<◌, ◌≤◌, ℤ, pos, negsuc, neg_ℤ, ◌+ℤ◌, ◌-ℤ◌, ◌*ℤ◌, ◌≤ℤ◌, List, map, length, get_or, set, take, All, sym, ap, ◌∙◌, cond, slice_range, take_all, to_z, of_z, w64, FitsSigned, arith}
+use Rattle.std.specs.Int.{w128, int_max}
 use Rattle.std.specs.List.{fold}
 use Rattle.std.proofs.lemmas.Int.{ints, clamps, to_z-of_z}
 use Rattle.std.proofs.lemmas.Bool.{lt-ltb, le-ltb}
 use Rattle.std.proofs.lemmas.Nat.{mul-le}
 use Rattle.std.proofs.lemmas.List.Sums.{fold_more}
-use Rattle.slint_base.specs.Numbers.{most_units, sat}
+use Rattle.slint_base.specs.Numbers.{most_units}
 use Rattle.layout_solve.specs.declared.items.Item.{Item}
 use Rattle.layout_solve.specs.declared.items.Cell.{Cell}
 use Rattle.layout_solve.specs.Items.{IsItem, IsWithinLimits}
-use Rattle.layout_solve.specs.Sizes.{total}
 use Rattle.layout_solve.specs.Tracks.{empty_track, lacking, raised_track, with_last_raised, widened}
 use Rattle.layout_solve.proofs.Wide.{IsHeld, kept, kept-is, kept_within, within-is, within_fits, both, near_fits}
 

@@ -2,4 +2,10 @@
 #![tactic(auto)]
 
 #[cfg(test)]
+mod boxes;
+#[cfg(test)]
+mod grids;
+#[cfg(test)]
 mod pairs;
+#[cfg(test)]
+mod texts;

@@ -1,8 +1,11 @@
 pub mod Cuts
 pub mod Following
 pub mod Ints
+pub mod LineCuts
+pub mod LineParts
 pub mod Naming
 pub mod Returns
 pub mod Rows
 pub mod Texts
 pub mod Trims
+pub mod WrittenPaths

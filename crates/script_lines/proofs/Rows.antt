@@ -37,25 +37,25 @@ before_close-none (b ∷ c ∷ bs) other =
     ap (option_map (λ front. b ∷ front)) none
 
 -- a byte that is nowhere in a list
-abbrev Lacks : ℕ → List ℕ → Type 0
+abbrev pub Lacks : ℕ → List ℕ → Type 0
 Lacks c bs = (i : ℕ) → i < length bs → get_or bs i 0 ≢ c
 
 lacks_more : (c b : ℕ) (bs : List ℕ) → Lacks c (b ∷ bs) → Lacks c bs
 lacks_more c b bs h = λ i l. h (suc i) (omega arith)
 
-before_bracket-at : (xs ys : List ℕ) → Lacks 91 xs → before_bracket (xs ++ 91 ∷ ys) ≡ xs
+pub before_bracket-at : (xs ys : List ℕ) → Lacks 91 xs → before_bracket (xs ++ 91 ∷ ys) ≡ xs
 before_bracket-at [] ys h = refl
 before_bracket-at (x ∷ xs) ys h = rw (ne_eqb x 91 (h 0 (omega arith)), before_bracket-at xs ys (lacks_more 91 x xs h)) refl
 
-from_bracket-at : (xs ys : List ℕ) → Lacks 91 xs → from_bracket (xs ++ 91 ∷ ys) ≡ 91 ∷ ys
+pub from_bracket-at : (xs ys : List ℕ) → Lacks 91 xs → from_bracket (xs ++ 91 ∷ ys) ≡ 91 ∷ ys
 from_bracket-at [] ys h = refl
 from_bracket-at (x ∷ xs) ys h = rw (ne_eqb x 91 (h 0 (omega arith))) (from_bracket-at xs ys (lacks_more 91 x xs h))
 
-before_bracket-none : (xs : List ℕ) → Lacks 91 xs → before_bracket xs ≡ xs
+pub before_bracket-none : (xs : List ℕ) → Lacks 91 xs → before_bracket xs ≡ xs
 before_bracket-none [] h = refl
 before_bracket-none (x ∷ xs) h = rw (ne_eqb x 91 (h 0 (omega arith)), before_bracket-none xs (lacks_more 91 x xs h)) refl
 
-from_bracket-none : (xs : List ℕ) → Lacks 91 xs → from_bracket xs ≡ []
+pub from_bracket-none : (xs : List ℕ) → Lacks 91 xs → from_bracket xs ≡ []
 from_bracket-none [] h = refl
 from_bracket-none (x ∷ xs) h = rw (ne_eqb x 91 (h 0 (omega arith))) (from_bracket-none xs (lacks_more 91 x xs h))
 

@@ -1,3 +1,4 @@
 pub mod Ints
 pub mod Lines
 pub mod Paths
+pub mod Written

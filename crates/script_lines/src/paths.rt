@@ -14,7 +14,7 @@ const MOST_ROW_DIGITS: usize = 9;
 
 /// The path that a text spells, `None` where it spells none: names with points between them, the first alone, each
 /// other one with or without a row number behind it, as `root.list[3].name`.
-pub fn read_path(alloc: Global, text: &str) -> Result<Option<Path>, Memory>
+pub(crate) fn read_path(alloc: Global, text: &str) -> Result<Option<Path>, Memory>
     ensures { IfOk result (λ path. path ≡ path_of text.now) }
 {
     match text.split_once('.') {

@@ -1,6 +1,5 @@
 pub mod FilesFound
 pub mod Judged
-pub mod LineCuts
 pub mod LineRuns
 pub mod NameLookups
 pub mod RunEnds

@@ -1,6 +1,7 @@
 -- A run goes on by a line.
-use Rattle.std.proofs.Common.{◌≡◌, ℕ, List, ◌∷◌, ◌++◌, sym, ap, ◌∙◌, append_assoc}
-use Rattle.slint_parser.specs.declared.trees.FirstFile.{FirstFile}
+use Rattle.std.proofs.Common.{◌≡◌, ℕ, List, [], ◌∷◌, ◌++◌, length, refl, sym, ap, ◌∙◌, append_assoc, arith}
+use Rattle.script_lines.specs.Lines.{lines_of}
+use Rattle.first_parser.specs.declared.trees.FirstFile.{FirstFile}
 use Rattle.slint_meaning.specs.Commands.{Turn, goes_on, halts, does_line}
 use Rattle.slint_meaning.specs.Runs.{Outcome, behind, after_turn, run_lines}
 use Rattle.slint_meaning.specs.Values.{World}
@@ -26,3 +27,8 @@ pub run_lines-answered : (file : FirstFile) (world : World) (end whole : Outcome
 run_lines-answered file world end whole lines left line written now live before cut answered =
     let after = after_turn-answered (does_line file world line) (λ next. run_lines file next left end) written now live answered in
     (after.0, after.1, before ∙ ap (λ ls. behind written (run_lines file world ls end)) cut ∙ after.2)
+
+-- no text has no line
+pub lines_of-none : (xs : List ℕ) → length xs ≡ 0 → lines_of xs ≡ []
+lines_of-none [] h = refl
+lines_of-none (x ∷ xs) h = absurd (omega arith)

@@ -1,18 +1,20 @@
 -- How a run ends, from what its parts answered.
-use Rattle.std.proofs.Common.{◌≡◌, ℕ, List, ◌++◌, refl, sym, subst, append-nil, Option, None, Some}
+use Rattle.std.proofs.Common.{◌≡◌, ℕ, List, ◌++◌, refl, sym, subst, append-nil, Option, None, Some, Err}
 use Rattle.std.specs.Io.KnownBytes.{Appends}
 use Rattle.std.proofs.lemmas.List.{append_cancel_left}
-use Rattle.slint_base.specs.declared.rules.Rule.TheVariants.{FileMissing}
-use Rattle.slint_meaning.specs.Counts.{Rose}
-use Rattle.slint_meaning.specs.Files.{FileList}
-use Rattle.slint_meaning.specs.Runs.{Outcome, Runs, verdict_line}
-use Rattle.slint_meaning.specs.Streams.{TakesFront}
-use Rattle.slint_cli.specs.declared.replies.Outcome.{Outcome as Made}
+use Rattle.io_edge.specs.Counts.{Rose}
+use Rattle.io_edge.specs.Files.{FileList}
+use Rattle.slint_meaning.specs.Runs.{Outcome, Runs, missing_line}
+use Rattle.io_edge.specs.Streams.{TakesFront}
+use Rattle.slint_meaning.specs.declared.endings.Ending.TheVariants.{Refused}
+use Rattle.slint_cli.specs.declared.replies.Output.{Output}
 use Rattle.slint_cli.specs.declared.status.Status.{Status}
-use Rattle.slint_cli.specs.declared.status.Status.TheVariants.{Memory, ReadFault, Refused}
-use Rattle.slint_cli.specs.Endings.{EndsAs, EndsAsTold, Writes}
-use Rattle.slint_cli.specs.Made.{outcome_of}
-use Rattle.slint_cli.specs.Running.{MissedWords}
+use Rattle.slint_cli.specs.declared.status.Status.TheVariants.{Ended, Stopped}
+use Rattle.slint_cli.specs.declared.status.Stop.{Stop}
+use Rattle.slint_cli.specs.declared.status.Stop.TheVariants.{Memory, ReadFault, SinkFault}
+use Rattle.slint_cli.specs.Statuses.{EndsAs, EndsAsTold, FaultsFit, Writes}
+use Rattle.slint_cli.specs.Outputs.{outcome_of}
+use Rattle.slint_cli.specs.Running.{MissedWords, ReadsFit}
 use Rattle.slint_cli.proofs.FilesFound.{some_files, some_script}
 
 -- each run has an outcome
@@ -24,33 +26,34 @@ nothing_taken : (taken : Option (List ℕ)) (bytes : List ℕ) → TakesFront ta
 nothing_taken None bytes = (0, tt)
 nothing_taken (Some before) bytes = (0, sym (append-nil before))
 
--- a run that ended before it wrote
-pub memory_ends : SomeOutcome → (ws : List (List ℕ)) (files : FileList) (script : List ℕ) (taken : Option (List ℕ)) → EndsAs ws files script Memory taken taken
-memory_ends some ws files script taken = let o = some ws files script in (o.0, o.1, nothing_taken taken o.0.bytes)
-
-pub fault_ends : SomeOutcome → (ws : List (List ℕ)) (files : FileList) (script : List ℕ) (taken : Option (List ℕ)) → EndsAs ws files script ReadFault taken taken
-fault_ends some ws files script taken = let o = some ws files script in (o.0, o.1, refl)
+-- a run that was stopped before it wrote
+pub stopped_ends : SomeOutcome → (stop : Stop) (ws : List (List ℕ)) (files : FileList) (script : List ℕ) (taken : Option (List ℕ)) → EndsAs ws files script (Stopped stop) taken taken
+stopped_ends some Memory ws files script taken = let o = some ws files script in (o.0, o.1, nothing_taken taken o.0.bytes)
+stopped_ends some ReadFault ws files script taken = let o = some ws files script in (o.0, o.1, refl)
+stopped_ends some SinkFault ws files script taken = let o = some ws files script in (o.0, o.1, nothing_taken taken o.0.bytes)
 
 -- the same over some files and some script
-pub memory_ends_told : SomeOutcome → (ws : List (List ℕ)) (held : Option FileList) (left taken : Option (List ℕ)) → EndsAsTold ws held left Memory taken taken
-memory_ends_told some ws held left taken =
+pub stopped_ends_told : SomeOutcome → (stop : Stop) (ws : List (List ℕ)) (held : Option FileList) (left taken : Option (List ℕ)) → EndsAsTold ws held left (Stopped stop) taken taken
+stopped_ends_told some stop ws held left taken =
     let f = some_files held in let s = some_script left in
-    record { files = f.0; script = s.0; files_told = f.1; script_told = s.1; ends = memory_ends some ws f.0 s.0 taken }
+    record { files = f.0; script = s.0; files_told = f.1; script_told = s.1; ends = stopped_ends some stop ws f.0 s.0 taken }
 
-pub fault_ends_told : SomeOutcome → (ws : List (List ℕ)) (held : Option FileList) (left taken : Option (List ℕ)) → EndsAsTold ws held left ReadFault taken taken
-fault_ends_told some ws held left taken =
-    let f = some_files held in let s = some_script left in
-    record { files = f.0; script = s.0; files_told = f.1; script_told = s.1; ends = fault_ends some ws f.0 s.0 taken }
+-- the counts where a run was stopped before it wrote
+pub stopped_fits : (stop : Stop) (files files_now script script_now out : ℕ) → ReadsFit (Err stop) files files_now script script_now
+    → FaultsFit (Stopped stop) (record { files = files; files_now = files_now; script = script; script_now = script_now; out = out; out_now = out })
+stopped_fits Memory files files_now script script_now out fits = (fits.0, fits.1, refl)
+stopped_fits ReadFault files files_now script script_now out fits = (fits, refl)
+stopped_fits SinkFault files files_now script script_now out fits = absurd fits
 
 -- the line of a missing file was made where it was written
-pub missed_written : (word : Option (List ℕ)) (status : Status) (made : Made) (taken now : Option (List ℕ)) (misses misses_now : ℕ) (name before : List ℕ)
-    → MissedWords word misses misses_now made → Writes status (outcome_of made) taken now
-    → word ≡ Some name → status ≡ Refused → taken ≡ Some before → now ≡ Some (before ++ verdict_line name FileMissing) → Rose misses misses_now
-missed_written word status made taken now misses misses_now name before missed writes named refused had has =
-    let M : Option (List ℕ) → Type 0 = λ w. MissedWords w misses misses_now made in
-    let W : Status → Type 0 = λ s. Writes s (outcome_of made) taken now in
-    let A : Option (List ℕ) → Type 0 = λ t. Appends t now made.bytes.items in
-    let B : Option (List ℕ) → Type 0 = λ t. Appends (Some before) t made.bytes.items in
+pub missed_written : (word : Option (List ℕ)) (status : Status) (output : Output) (taken now : Option (List ℕ)) (misses misses_now : ℕ) (name before : List ℕ)
+    → MissedWords word misses misses_now output → Writes status (outcome_of output) taken now
+    → word ≡ Some name → status ≡ Ended Refused → taken ≡ Some before → now ≡ Some (before ++ missing_line name) → Rose misses misses_now
+missed_written word status output taken now misses misses_now name before missed writes named refused had has =
+    let M : Option (List ℕ) → Type 0 = λ w. MissedWords w misses misses_now output in
+    let W : Status → Type 0 = λ s. Writes s (outcome_of output) taken now in
+    let A : Option (List ℕ) → Type 0 = λ t. Appends t now output.bytes.items in
+    let B : Option (List ℕ) → Type 0 = λ t. Appends (Some before) t output.bytes.items in
     let written = subst W refused writes in
     let grown = subst B has (subst A had written.1) in
-    subst M named missed written.0 (sym (append_cancel_left before (verdict_line name FileMissing) made.bytes.items grown))
+    subst M named missed written.0 (sym (append_cancel_left before (missing_line name) output.bytes.items grown))

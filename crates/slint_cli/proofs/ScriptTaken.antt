@@ -4,8 +4,8 @@ use Rattle.std.specs.Prelude.{nat_le}
 use Rattle.std.specs.Io.KnownBytes.{Consumes, IsAtEnd}
 use Rattle.std.proofs.lemmas.Bool.Decides.{leb_tells}
 use Rattle.std.proofs.lemmas.List.{take-append-le}
-use Rattle.slint_parser.specs.declared.trees.FirstFile.{FirstFile}
-use Rattle.slint_meaning.specs.Lines.{whole_lines}
+use Rattle.first_parser.specs.declared.trees.FirstFile.{FirstFile}
+use Rattle.script_lines.specs.Lines.{whole_lines}
 use Rattle.slint_meaning.specs.Runs.{Outcome, run_script, run_lines, most_script, cut_off}
 use Rattle.slint_meaning.specs.Values.{opening_world}
 use Rattle.slint_cli.specs.Running.{RanScript}

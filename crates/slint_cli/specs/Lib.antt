@@ -1,4 +1,5 @@
-pub mod Endings
-pub mod Made
+pub mod Outputs
 pub mod Running
+pub mod Statuses
 pub mod Turns
+pub mod Verdicts

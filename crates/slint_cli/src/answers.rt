@@ -6,9 +6,9 @@ ghost use Rattle.first_evaluator.specs.Live.{Shows};
 ghost use Rattle.slint_cli.specs.Turns.{Answers, LeadsTo};
 
 use first_evaluator::Evaluator;
-use script_lines::{read_int, read_line};
+use script_lines::{BadLine, Command, Path, read_int, read_line};
 use slint_base::{End, Memory};
-use slint_meaning::{BadLine, Command, LineRefusal, Path};
+use slint_meaning::LineRefusal;
 use std::alloc::Global;
 
 /// What a path leads to.
@@ -129,7 +129,7 @@ fn answer_command(
 }
 
 /// Answers a line of the script, which stands without its line feed.
-pub fn answer_line(
+pub(crate) fn answer_line(
     alloc: Global,
     evaluator: &mut Evaluator,
     out: &mut Vec<u8>,

@@ -1,30 +1,27 @@
-ghost use Rattle.std.specs.Prelude.{◌≡◌, IfOk, MatchOption};
-ghost use Rattle.slint_meaning.specs.Sources.{IsSource, NoSource};
+ghost use Rattle.std.specs.Prelude.{Some};
+ghost use Rattle.slint_cli.specs.Verdicts.{Judges};
 
 use first_evaluator::{Component, resolve};
-use slint_base::{End, Memory};
-use slint_lexer::lex;
-use slint_parser::parse_first;
+use slint_base::{End, Fault, Rule, at_start};
+use first_lexer::lex;
+use slint_meaning::MAIN_FILE;
+use first_parser::parse_first;
 use std::alloc::Global;
 
 /// The most bytes of a source.
 const MOST_BYTES: usize = 262_144;
 
-/// The component of a source, ready to be evaluated; nothing where the bytes are no source of the language
+/// The component of a source, ready to be evaluated; the fault of the main file where the bytes are no source of the language
 /// as far as it is built.
-pub fn judge(alloc: Global, bytes: &[u8]) -> Result<Option<Component>, Memory>
-    ensures { IfOk result (λ found. MatchOption found (NoSource bytes.now) (IsSource bytes.now)) }
+pub(crate) fn judge(alloc: Global, bytes: &[u8]) -> Result<Component, End<Fault>>
+    ensures { Judges (Some bytes.now) result }
 {
     if bytes.len() > MOST_BYTES {
-        return Ok(None);
+        return Err(End::Fault(at_start(Rule::NotBuilt, MAIN_FILE)));
     }
-    let tokens = match lex(alloc, 0, bytes) {
-        Ok(tokens) => tokens,
-        Err(End::Fault(_)) => return Ok(None),
-        Err(End::Memory) => return Err(Memory),
-    };
+    let tokens = lex(alloc, MAIN_FILE, bytes)?;
     match parse_first(alloc, &tokens)? {
-        None => Ok(None),
+        None => Err(End::Fault(at_start(Rule::NotBuilt, MAIN_FILE))),
         Some(file) => resolve(alloc, file),
     }
 }

@@ -1,79 +1,27 @@
-ghost use Rattle.std.specs.Prelude.{◌≡◌, ◌==◌, None, Some, IfOk, MatchOption, map, slice_index, string_bytes};
+ghost use Rattle.std.specs.Prelude.{◌≡◌, ◌==◌, ◌<◌, ◌-◌, ◌^◌, None, Some, IfOk, OnOk, MatchOption, length, map, slice_index, string_bytes};
 ghost use Rattle.slint_meaning.specs.Runs.{file_word, unreadable, verdict_line};
-ghost use Rattle.slint_meaning.specs.Counts.{IsQuiet};
-ghost use Rattle.slint_cli.specs.Made.{outcome_of};
-ghost use Rattle.slint_meaning.specs.declared.commands.Ending.TheVariants.{Refused};
-ghost use Rattle.slint_cli.specs.Running.{MissedFile, MissedWords, RanFile, RanScript, ReadsFit, ScriptFits, TakenBy};
+ghost use Rattle.io_edge.specs.Counts.{IsQuiet};
+ghost use Rattle.slint_cli.specs.Outputs.{outcome_of};
+ghost use Rattle.slint_meaning.specs.declared.endings.Ending.TheVariants.{Refused};
+ghost use Rattle.slint_cli.specs.Running.{MissedFile, MissedWhereAbsent, MissedWords, RanFile, RanScript, ReadsFit, ScriptFits, TakenBy};
 
 use crate::judging::judge;
-use crate::replies::{MOST_SCRIPT, Outcome, run_script};
+use crate::replies::{MOST_SCRIPT, Output, run_script};
+use crate::status::Stop;
 use first_evaluator::Component;
-use io_edge::{Files, FilesEnd, Found, Source, SourceEnd, take_up_to};
-use slint_base::{Memory, Rule};
-use slint_meaning::Ending;
-use std::alloc::{AllocError, Global};
-
-/// Why a run ends before its outcome is known.
-#[derive(Clone, Copy, Debug, PartialEq, Eq)]
-pub enum Stop {
-    Memory,
-    ReadFault,
-}
-
-impl From<Memory> for Stop {
-    ghost use Rattle.slint_cli.specs.declared.running.Stop.TheVariants.{Memory as memory_stop};
-
-    ghost from_gives = { λ _ e. e ≡ memory_stop };
-
-    fn from(_e: Memory) -> Stop {
-        Stop::Memory
-    }
-}
-
-impl From<AllocError> for Stop {
-    ghost use Rattle.slint_cli.specs.declared.running.Stop.TheVariants.{Memory as memory_stop};
-
-    ghost from_gives = { λ _ e. e ≡ memory_stop };
-
-    fn from(_e: AllocError) -> Stop {
-        Stop::Memory
-    }
-}
-
-impl From<SourceEnd> for Stop {
-    ghost use Rattle.slint_cli.specs.Running.{stop_of_source};
-
-    ghost from_gives = { λ end stop. stop ≡ stop_of_source end };
-
-    fn from(end: SourceEnd) -> Stop {
-        match end {
-            SourceEnd::Failed => Stop::ReadFault,
-            SourceEnd::Memory => Stop::Memory,
-        }
-    }
-}
-
-impl From<FilesEnd> for Stop {
-    ghost use Rattle.slint_cli.specs.Running.{stop_of_files};
-
-    ghost from_gives = { λ end stop. stop ≡ stop_of_files end };
-
-    fn from(end: FilesEnd) -> Stop {
-        match end {
-            FilesEnd::Failed => Stop::ReadFault,
-            FilesEnd::Memory => Stop::Memory,
-        }
-    }
-}
+use io_edge::{Files, Found, Source, take_up_to};
+use slint_base::{End, Fault, Memory, Refusal, Rule, at_start};
+use slint_meaning::{Ending, MAIN_FILE};
+use std::alloc::Global;
 
 /// The outcome of a component over a script, which is taken whole before its first line runs.
 fn run_component<S: Source>(
     alloc: Global,
     component: Component,
     script: &mut S,
-) -> Result<Outcome, Stop>
-    ensures ran { IfOk result (λ made. RanScript component (S.left script.old) (outcome_of made)) }
-    ensures ended { IfOk result (λ made. made.end ≡ Refused → ⊥) }
+) -> Result<Output, Stop>
+    ensures ran { IfOk result (λ output. RanScript component (S.left script.old) (outcome_of output)) }
+    ensures ended { IfOk result (λ output. output.end ≡ Refused → ⊥) }
     ensures took { TakenBy result (S.left script.old) (S.left script.new) }
     ensures counted { ScriptFits result (S.faults script.old) (S.faults script.new) }
     ensures steady { S.is_steady script.old → IsQuiet (S.is_steady script.new) (S.faults script.old) (S.faults script.new) }
@@ -83,15 +31,16 @@ fn run_component<S: Source>(
     Ok(outcome)
 }
 
-/// The outcome of a rejected source.
-fn reject(alloc: Global, name: &str, rule: Rule) -> Result<Outcome, Memory>
-    ensures { IfOk result (λ made. outcome_of made ≡ record { end = Refused; bytes = verdict_line name.now rule }) }
+/// The outcome of a source that is refused for a fault in a file of this name and these bytes.
+fn refuse(alloc: Global, name: &str, bytes: &[u8], fault: Fault) -> Result<Output, Memory>
+    requires { length bytes.now < 2 ^ 32 - 1 }
+    ensures { IfOk result (λ output. outcome_of output ≡ record { end = Refused; bytes = verdict_line name.now bytes.now fault }) }
 {
-    let number = rule.number();
-    let line = format!(in alloc; "refused {number} {name} 1:1-1:1\n")?;
-    let bytes = Vec::from_slice(alloc, line.as_bytes())?;
+    let line = Refusal::of_fault(alloc, name, bytes, fault)?.line(alloc)?;
+    let mut bytes = Vec::from_slice(alloc, line.as_bytes())?;
+    bytes.push(b'\n')?;
     let end = Ending::Refused;
-    Ok(Outcome { end, bytes })
+    Ok(Output { end, bytes })
 }
 
 /// The outcome of a main file over the files and the script.
@@ -100,9 +49,10 @@ fn run_file<F: Files, S: Source>(
     name: &str,
     files: &mut F,
     script: &mut S,
-) -> Result<Outcome, Stop>
-    ensures ran { IfOk result (λ made. RanFile (Some name.now) (F.held files.old) (S.left script.old) (outcome_of made)) }
+) -> Result<Output, Stop>
+    ensures ran { IfOk result (λ output. RanFile (Some name.now) (F.held files.old) (S.left script.old) (outcome_of output)) }
     ensures missed { IfOk result (MissedFile name.now (F.misses files.old) (F.misses files.new)) }
+    ensures absent { OnOk result (MissedWhereAbsent (Some name.now) (F.held files.old) (F.misses files.old) (F.misses files.new)) }
     ensures took { TakenBy result (S.left script.old) (S.left script.new) }
     ensures counted { ReadsFit result (F.faults files.old) (F.faults files.new) (S.faults script.old) (S.faults script.new) }
     ensures same_map { F.held files.new ≡ F.held files.old }
@@ -110,10 +60,11 @@ fn run_file<F: Files, S: Source>(
     ensures script_steady { S.is_steady script.old → IsQuiet (S.is_steady script.new) (S.faults script.old) (S.faults script.new) }
 {
     match files.read(alloc, name)? {
-        Found::Missing => Ok(reject(alloc, name, Rule::FileMissing)?),
-        Found::Bytes(bytes) => match judge(alloc, &bytes)? {
-            None => Ok(reject(alloc, name, Rule::NotBuilt)?),
-            Some(component) => run_component(alloc, component, script),
+        Found::Missing => Ok(refuse(alloc, name, b"", at_start(Rule::FileMissing, MAIN_FILE))?),
+        Found::Bytes(bytes) => match judge(alloc, &bytes) {
+            Ok(component) => run_component(alloc, component, script),
+            Err(End::Fault(fault)) => Ok(refuse(alloc, name, &bytes, fault)?),
+            Err(End::Memory) => Err(Stop::Memory),
         },
     }
 }
@@ -136,23 +87,24 @@ fn file_of(words: &[String]) -> Option<&str>
 }
 
 /// The outcome of words that can't be read.
-fn unreadable(alloc: Global) -> Result<Outcome, Memory>
-    ensures { IfOk result (λ made. outcome_of made ≡ unreadable) }
+fn unreadable(alloc: Global) -> Result<Output, Memory>
+    ensures { IfOk result (λ output. outcome_of output ≡ unreadable) }
 {
     let bytes = Vec::from_slice(alloc, b"words\n")?;
     let end = Ending::Words;
-    Ok(Outcome { end, bytes })
+    Ok(Output { end, bytes })
 }
 
 /// The outcome of the words of the command line, the first of which is the program's name, over the files and the script.
-pub fn run_words<F: Files, S: Source>(
+pub(crate) fn run_words<F: Files, S: Source>(
     alloc: Global,
     words: &[String],
     files: &mut F,
     script: &mut S,
-) -> Result<Outcome, Stop>
-    ensures ran { IfOk result (λ made. RanFile (file_word (map string_bytes words.now)) (F.held files.old) (S.left script.old) (outcome_of made)) }
+) -> Result<Output, Stop>
+    ensures ran { IfOk result (λ output. RanFile (file_word (map string_bytes words.now)) (F.held files.old) (S.left script.old) (outcome_of output)) }
     ensures missed { IfOk result (MissedWords (file_word (map string_bytes words.now)) (F.misses files.old) (F.misses files.new)) }
+    ensures absent { OnOk result (MissedWhereAbsent (file_word (map string_bytes words.now)) (F.held files.old) (F.misses files.old) (F.misses files.new)) }
     ensures took { TakenBy result (S.left script.old) (S.left script.new) }
     ensures counted { ReadsFit result (F.faults files.old) (F.faults files.new) (S.faults script.old) (S.faults script.new) }
     ensures same_map { F.held files.new ≡ F.held files.old }

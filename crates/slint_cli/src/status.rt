@@ -1,23 +1,84 @@
 ghost use Rattle.std.specs.Prelude.{◌≡◌};
-ghost use Rattle.slint_cli.specs.Endings.{status_number};
+ghost use Rattle.slint_cli.specs.Statuses.{status_number, stop_number};
 
-/// How a run of the program ended, under the number that the process ends with.
+use io_edge::{FilesEnd, SourceEnd};
+use slint_base::Memory;
+use slint_meaning::Ending;
+use std::alloc::AllocError;
+
+/// What stops a run before it has written all that it comes to, under the number that the process ends with.
 #[derive(Clone, Copy, Debug, PartialEq, Eq)]
-pub enum Status {
-    /// The script was read to its end, and every command is answered.
-    Done = 0,
-    /// Memory could not be had.
+pub enum Stop {
+    /// Memory could not be had; what was written is a front of the whole.
     Memory = 1,
-    /// The words of the command line can't be read.
-    Words = 2,
-    /// The source is refused.
-    Refused = 3,
     /// A read of the files or of the script failed; nothing is written.
     ReadFault = 6,
     /// A write failed; what was written is a front of the whole.
     SinkFault = 7,
-    /// The script has over 16,777,216 bytes.
-    ScriptLong = 8,
+}
+
+impl Stop {
+    /// The number that the process ends with.
+    pub fn number(self) -> u8
+        ensures { result ≡ stop_number self }
+    {
+        self as u8
+    }
+}
+
+impl From<Memory> for Stop {
+    ghost use Rattle.slint_cli.specs.declared.status.Stop.TheVariants.{Memory as memory_stop};
+
+    ghost from_gives = { λ _ e. e ≡ memory_stop };
+
+    fn from(_e: Memory) -> Stop {
+        Stop::Memory
+    }
+}
+
+impl From<AllocError> for Stop {
+    ghost use Rattle.slint_cli.specs.declared.status.Stop.TheVariants.{Memory as memory_stop};
+
+    ghost from_gives = { λ _ e. e ≡ memory_stop };
+
+    fn from(_e: AllocError) -> Stop {
+        Stop::Memory
+    }
+}
+
+impl From<SourceEnd> for Stop {
+    ghost use Rattle.slint_cli.specs.Running.{stop_of_source};
+
+    ghost from_gives = { λ end stop. stop ≡ stop_of_source end };
+
+    fn from(end: SourceEnd) -> Stop {
+        match end {
+            SourceEnd::Failed => Stop::ReadFault,
+            SourceEnd::Memory => Stop::Memory,
+        }
+    }
+}
+
+impl From<FilesEnd> for Stop {
+    ghost use Rattle.slint_cli.specs.Running.{stop_of_files};
+
+    ghost from_gives = { λ end stop. stop ≡ stop_of_files end };
+
+    fn from(end: FilesEnd) -> Stop {
+        match end {
+            FilesEnd::Failed => Stop::ReadFault,
+            FilesEnd::Memory => Stop::Memory,
+        }
+    }
+}
+
+/// How a run of the program ended.
+#[derive(Clone, Copy, Debug, PartialEq, Eq)]
+pub enum Status {
+    /// By itself; all that it answers is written.
+    Ended(Ending),
+    /// Something stopped it.
+    Stopped(Stop),
 }
 
 impl Status {
@@ -25,6 +86,9 @@ impl Status {
     pub fn number(self) -> u8
         ensures { result ≡ status_number self }
     {
-        self as u8
+        match self {
+            Status::Ended(end) => end.number(),
+            Status::Stopped(stop) => stop.number(),
+        }
     }
 }

@@ -1,39 +1,27 @@
 ghost use Rattle.std.specs.Prelude.{◌≡◌, ℕ, List, map, string_bytes, Some};
-ghost use Rattle.slint_meaning.specs.Counts.{IsQuiet};
-ghost use Rattle.slint_meaning.specs.Files.{FileList};
-ghost use Rattle.slint_meaning.specs.Runs.{Outcome as Outcomes, Runs};
-ghost use Rattle.slint_cli.specs.Endings.{EndsAs, EndsAsTold, FaultsFit, IsOwnStatus, IsUntroubled, MissedWhereRefused, OutFits, TakesScript, Writes, status_of_end};
-ghost use Rattle.slint_cli.specs.Made.{outcome_of};
+ghost use Rattle.io_edge.specs.Counts.{IsQuiet};
+ghost use Rattle.io_edge.specs.Files.{FileList};
+ghost use Rattle.slint_meaning.specs.Runs.{Runs};
+ghost use Rattle.slint_cli.specs.Statuses.{EndsAs, EndsAsTold, FaultsFit, IsOwnStatus, IsUntroubled, MissedWhereNone, MissedWhereRefused, OutFits, TakesScript, Writes};
+ghost use Rattle.slint_cli.specs.Outputs.{outcome_of};
 
-use crate::replies::Outcome;
-use crate::running::{Stop, run_words};
-use crate::status::Status;
+use crate::replies::Output;
+use crate::running::run_words;
+use crate::status::{Status, Stop};
 use io_edge::{Files, Sink, SinkEnd, Source, write_all};
-use slint_meaning::{Ending, some_outcome};
+use slint_meaning::some_outcome;
 use std::alloc::Global;
 
-/// The status of an end that the program has of its own.
-fn status_of(end: Ending) -> Status
-    ensures { result ≡ status_of_end end }
-{
-    match end {
-        Ending::Done => Status::Done,
-        Ending::Words => Status::Words,
-        Ending::Refused => Status::Refused,
-        Ending::ScriptLong => Status::ScriptLong,
-    }
-}
-
-/// Writes an outcome whole, and says how the run ends then.
-fn write_outcome<K: Sink>(outcome: &Outcome, out: &mut K) -> Status
-    ensures writes { Writes result (outcome_of outcome.now) (K.taken out.old) (K.taken out.new) }
+/// Writes all that a run comes to, and says how it ends then.
+fn write_output<K: Sink>(output: &Output, out: &mut K) -> Status
+    ensures writes { Writes result (outcome_of output.now) (K.taken out.old) (K.taken out.new) }
     ensures counted { OutFits result (K.faults out.old) (K.faults out.new) }
     ensures steady { K.is_steady out.old → IsQuiet (K.is_steady out.new) (K.faults out.old) (K.faults out.new) }
 {
-    match write_all(out, &outcome.bytes) {
-        Ok(()) => status_of(outcome.end),
-        Err(SinkEnd::Failed) => Status::SinkFault,
-        Err(SinkEnd::Memory) => Status::Memory,
+    match write_all(out, &output.bytes) {
+        Ok(()) => Status::Ended(output.end),
+        Err(SinkEnd::Failed) => Status::Stopped(Stop::SinkFault),
+        Err(SinkEnd::Memory) => Status::Stopped(Stop::Memory),
     }
 }
 
@@ -71,6 +59,8 @@ pub fn slint_run<F: Files, S: Source, K: Sink>(
       out_now = K.faults out.new;
     }) → IsOwnStatus result }
     ensures missed { MissedWhereRefused (map string_bytes words.items) result (K.taken out.old) (K.taken out.new) (F.misses files.old) (F.misses files.new) }
+    ensures missed_none { MissedWhereNone (map string_bytes words.items) (F.held files.old) result (F.misses files.old) (F.misses files.new) }
+    ensures same_map { F.held files.new ≡ F.held files.old }
 
     // What is taken of the script: all of it at the end, none of it where the words or the source are refused.
     ensures took { TakesScript result (S.left script.old) (S.left script.new) }
@@ -83,8 +73,7 @@ pub fn slint_run<F: Files, S: Source, K: Sink>(
     // A run that ends before its outcome is known has one all the same.
     some_outcome();
     match run_words(alloc, &words, files, script) {
-        Ok(outcome) => write_outcome(&outcome, out),
-        Err(Stop::Memory) => Status::Memory,
-        Err(Stop::ReadFault) => Status::ReadFault,
+        Ok(output) => write_output(&output, out),
+        Err(stop) => Status::Stopped(stop),
     }
 }

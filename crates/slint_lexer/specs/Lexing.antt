@@ -1,5 +1,5 @@
 -- Which tokens a source's bytes are, and which fault they have.
-use Rattle.std.specs.Prelude.{◌≡◌, ℕ, zero, suc, ◌+◌, ◌-◌, ◌<◌, ⊤, Bool, true, false, List, [], ◌∷◌, ◌++◌, length, take, drop, nat_eq, if◌then◌else◌, Option, Some, None}
+use Rattle.std.specs.Prelude.{◌≡◌, ℕ, zero, suc, ◌+◌, ◌-◌, ⊤, Bool, true, false, List, [], ◌∷◌, ◌++◌, length, take, drop, nat_eq, if◌then◌else◌, Option, Some, None}
 use Rattle.std.specs.List.{slice_get, starts_with}
 use Rattle.slint_base.specs.declared.endings.End.{End}
 use Rattle.slint_base.specs.declared.endings.End.TheVariants as ends
@@ -11,13 +11,17 @@ use Rattle.slint_literals.specs.declared.strings.Look.TheVariants as looks
 use Rattle.slint_literals.specs.Characters.{char_len}
 use Rattle.slint_literals.specs.Steps.{Steps}
 use Rattle.slint_literals.specs.Strings.{text_look, IsRun}
+use Rattle.slint_lexer.specs.declared.classes.Class.{Class}
+use Rattle.slint_lexer.specs.declared.classes.Class.TheVariants.{Quote, Close, Slash, Other}
+use Rattle.slint_lexer.specs.declared.classes.Second.{Second}
+use Rattle.slint_lexer.specs.declared.classes.Second.TheVariants.{Block, Line, Neither}
 use Rattle.slint_lexer.specs.declared.marks.Mark.{Mark}
 use Rattle.slint_lexer.specs.declared.marks.Mark.TheVariants.{Brace, Hole}
 use Rattle.slint_lexer.specs.declared.tokens.Symbol.TheVariants as symbols
 use Rattle.slint_lexer.specs.declared.tokens.Token.{Token}
 use Rattle.slint_lexer.specs.declared.tokens.TokenKind.{TokenKind}
 use Rattle.slint_lexer.specs.declared.tokens.TokenKind.TheVariants as kinds
-use Rattle.slint_lexer.specs.Pieces.{What, Apart, Tok, Bad, Class, Blank, Digit, Hash, Quote, Close, Slash, Word, Other, Second, Nested, Line, Neither, Front, NothingBegins, class_of, second_of, comment_step}
+use Rattle.slint_lexer.specs.Pieces.{Apart, Tok, Bad, Front, NothingBegins, class_of, second_of, comment_step}
 
 -- a hole lies on top
 abbrev pub is_hole : Option Mark → Bool
@@ -86,7 +90,7 @@ BreaksString b s rule at count = (text : List ℕ) × (x : List ℕ) × IsRun s 
 
 -- a comment is broken, where so many are open and no step goes on
 abbrev pub BreaksSlash : Second → ℕ → List ℕ → Rule → List ℕ → ℕ → Type 0
-BreaksSlash Nested b s rule at count = (depth : ℕ) × (x : List ℕ) × Steps comment_step (1, drop 1 s) (suc depth, x) × (comment_step (suc depth, x) ≡ None) × BreaksComment (b ∷ s) x rule at count
+BreaksSlash Block b s rule at count = (depth : ℕ) × (x : List ℕ) × Steps comment_step (1, drop 1 s) (suc depth, x) × (comment_step (suc depth, x) ≡ None) × BreaksComment (b ∷ s) x rule at count
 BreaksSlash Line b s rule at count = ⊥
 BreaksSlash Neither b s rule at count = ⊥
 
@@ -105,7 +109,7 @@ BreaksAs _ ends b s rule at count = ⊥
 
 abbrev pub Breaks : Bool → List ℕ → Rule → List ℕ → ℕ → Type 0
 Breaks ends [] rule at count = ⊥
-Breaks ends (b ∷ s) rule at count = BreaksAs (class_of b s) ends b s rule at count
+Breaks ends (b ∷ s) rule at count = BreaksAs (class_of (b ∷ s)) ends b s rule at count
 
 -- lexing ends here with a fault: the piece has a value that breaks a rule, or nothing begins
 pub data Stuck (file n : ℕ) (ends : Bool) (s : List ℕ) : Fault → Type 0 where

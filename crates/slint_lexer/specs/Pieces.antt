@@ -1,5 +1,5 @@
 -- The pieces of a source: separators and tokens, each by the bytes before what is left behind it.
-use Rattle.std.specs.Prelude.{◌≡◌, ℕ, zero, suc, ◌+◌, ◌<◌, ◌≤◌, ⊤, Bool, true, false, List, [], ◌∷◌, ◌++◌, length, drop, ◌==◌, ◌||◌, if◌then◌else◌, Option, Some, None}
+use Rattle.std.specs.Prelude.{◌≡◌, ℕ, zero, suc, ◌≤◌, Bool, true, false, List, [], ◌∷◌, ◌++◌, length, drop, ◌==◌, ◌&&◌, ◌||◌, if◌then◌else◌, Option, Some, None}
 use Rattle.std.specs.Char.{is_ascii_digit, is_ascii_alphanumeric}
 use Rattle.std.specs.List.{list_all}
 use Rattle.slint_base.specs.Names.{normal_name}
@@ -13,6 +13,12 @@ use Rattle.slint_literals.specs.Colours.{colour_value}
 use Rattle.slint_literals.specs.Numbers.{is_number, number_value}
 use Rattle.slint_literals.specs.Steps.{Steps}
 use Rattle.slint_literals.specs.Strings.{text_look, IsRun}
+use Rattle.slint_lexer.specs.declared.classes.Class.{Class}
+use Rattle.slint_lexer.specs.declared.classes.Class.TheVariants.{Blank, Digit, Hash, Quote, Close, Slash, Word, Other}
+use Rattle.slint_lexer.specs.declared.classes.Second.{Second}
+use Rattle.slint_lexer.specs.declared.classes.Second.TheVariants.{Block, Line, Neither}
+use Rattle.slint_lexer.specs.declared.comments.Bound.{Bound}
+use Rattle.slint_lexer.specs.declared.comments.Bound.TheVariants.{Opens, Shuts, Skips}
 use Rattle.slint_lexer.specs.declared.tokens.Symbol.{Symbol}
 use Rattle.slint_lexer.specs.declared.tokens.Symbol.TheVariants as symbols
 use Rattle.slint_lexer.specs.declared.tokens.TokenKind.{TokenKind}
@@ -26,24 +32,14 @@ pub data What : Type 0 where
   Tok : TokenKind → What
   Bad : Rule → What
 
--- what the first byte tells of a piece
-pub data Class : Type 0 where
-  Blank : Class
-  Digit : Class
-  Hash : Class
-  Quote : Class
-  Close : Class
-  Slash : Class
-  Word : Class
-  Other : Class
-
 -- tab, line feed, form feed, carriage return and space separate tokens
 abbrev pub is_blank : ℕ → Bool
 is_blank b = b == 9 || b == 10 || b == 12 || b == 13 || b == 32
 
--- what the first byte b tells of a piece; a name's first character may have further bytes
-abbrev pub class_of : ℕ → List ℕ → Class
-class_of b s = if is_blank b then Blank
+-- what the first byte tells of a piece; a name's first character may have further bytes
+abbrev pub class_of : List ℕ → Class
+class_of [] = Other
+class_of (b ∷ s) = if is_blank b then Blank
     else if is_ascii_digit b then Digit
     else if b == 35 then Hash
     else if b == 34 then Quote
@@ -86,12 +82,6 @@ EndsText first text _ x w r = ⊥
 abbrev pub SpellsText : Bool → List ℕ → What → List ℕ → Type 0
 SpellsText first s w r = (text : List ℕ) × (x : List ℕ) × IsRun s text x × EndsText first text (text_look x) x w r
 
--- what lies at the front of the inside of a comment that nests
-pub data Bound : Type 0 where
-  Opens : Bound
-  Shuts : Bound
-  Skips : ℕ → Bound
-
 -- `/*`, `*/`, or else a character; none where no well-formed one lies there
 abbrev pub bound_of : List ℕ → Bound
 bound_of [] = Skips 0
@@ -128,18 +118,13 @@ abbrev pub SpellsLine : List ℕ → What → List ℕ → Type 0
 SpellsLine s w r = Steps line_step s r × (line_step r ≡ None) × (w ≡ Apart)
 
 -- what the byte behind a slash tells
-pub data Second : Type 0 where
-  Nested : Second
-  Line : Second
-  Neither : Second
-
 abbrev pub second_of : List ℕ → Second
 second_of [] = Neither
-second_of (c ∷ s) = if c == 42 then Nested else if c == 47 then Line else Neither
+second_of (c ∷ s) = if c == 42 then Block else if c == 47 then Line else Neither
 
 -- a comment or a symbol, behind a slash
 abbrev pub SpellsSlash : Second → List ℕ → What → List ℕ → Type 0
-SpellsSlash Nested s w r = SpellsComment (drop 1 s) w r
+SpellsSlash Block s w r = SpellsComment (drop 1 s) w r
 SpellsSlash Line s w r = SpellsLine (drop 1 s) w r
 SpellsSlash Neither s w r = SpellsSymbol (47 ∷ s) w r
 
@@ -162,7 +147,7 @@ SpellsAs Other ends b s w r = SpellsSymbol (b ∷ s) w r
 -- a piece at the front of bytes; `ends` tells whether a closing brace there ends a hole
 abbrev pub Spells : Bool → List ℕ → What → List ℕ → Type 0
 Spells ends [] w r = ⊥
-Spells ends (b ∷ s) w r = SpellsAs (class_of b s) ends b s w r
+Spells ends (b ∷ s) w r = SpellsAs (class_of (b ∷ s)) ends b s w r
 
 -- the piece at the front: no piece there is longer
 pub record Front (ends : Bool) (s : List ℕ) (w : What) (r : List ℕ) : Type 0 where

@@ -28,7 +28,7 @@ pub ascii_hex : (ds : List ℕ) → list_all is_ascii_hexdigit ds ≡ true → I
 ascii_hex [] h = IsAscii-nil
 ascii_hex (d ∷ ds) h = let parts = both (is_ascii_hexdigit d) (list_all is_ascii_hexdigit ds) h in IsAscii-cons d ds (hex_ascii d parts.0) (ascii_hex ds parts.1)
 
-all_hex : (ds : List ℕ) → list_all is_ascii_hexdigit ds ≡ true → AllDigits 16 ds
+pub all_hex : (ds : List ℕ) → list_all is_ascii_hexdigit ds ≡ true → AllDigits 16 ds
 all_hex [] h = tt
 all_hex (d ∷ ds) h = let parts = both (is_ascii_hexdigit d) (list_all is_ascii_hexdigit ds) h in (hex_low d parts.0, all_hex ds parts.1)
 

@@ -4,5 +4,9 @@ pub mod Chars
 pub mod Looks
 pub mod NumberTexts
 pub mod PrintedTexts
+pub mod RunTexts
 pub mod Runs
 pub mod Worths
+pub mod Digits
+pub mod SpelledNumbers
+pub mod ReadNumbers

@@ -302,3 +302,34 @@ count_is text whole behind fraction unit m n w b f e u k =
     let whole_same = ap length w in
     let count_same = ap unit_length unit_same in
     omega arith
+
+blank_after : (p : ℕ → Bool) (u s : List ℕ) → p 32 ≡ false → Fails p u → Fails p (u ++ 32 ∷ s)
+blank_after p [] s b h = b
+blank_after p (x ∷ u) s b h = h
+
+letters_ended : (b : ℕ) (u s : List ℕ) → list_all is_ascii_alphabetic (b ∷ u) ≡ true → unit_length ((b ∷ u) ++ 32 ∷ s) ≡ length (b ∷ u)
+letters_ended b u s h =
+    let not_percent : eqb b 37 ≡ false = letter_no_percent b (both (is_ascii_alphabetic b) (list_all is_ascii_alphabetic u) h).0 in
+    let letters : unit_length ((b ∷ u) ++ 32 ∷ s) ≡ prefix_len is_ascii_alphabetic ((b ∷ u) ++ 32 ∷ s) = rw not_percent refl in
+    letters ∙ prefix_len-whole is_ascii_alphabetic (b ∷ u) (32 ∷ s) h refl
+
+letters_end : (u s : List ℕ) → list_all is_ascii_alphabetic u ≡ true → unit_length (u ++ 32 ∷ s) ≡ length u
+letters_end [] s h = refl
+letters_end (b ∷ u) s h = letters_ended b u s h
+
+unit_ended : (u s : List ℕ) → is_unit u ≡ true → unit_length (u ++ 32 ∷ s) ≡ length u
+unit_ended u s h = elim (unit_kinds u h) [
+  | inl same ↦ let Ended : List ℕ → Type 0 = λ x. unit_length (x ++ 32 ∷ s) ≡ length x in let one : unit_length (37 ∷ 32 ∷ s) ≡ 1 = refl in subst Ended (sym same) one
+  | inr letters ↦ letters_end u s letters
+]
+
+-- a number's text before what no number goes on with is the longest there
+pub ended_length : (w f u s : List ℕ) → are_parts w f u ≡ true → number_length (numeral w f u ++ 32 ∷ s) ≡ length (numeral w f u)
+ended_length w f u s h =
+    let p = parts_of w f u h in
+    let at = parts_before w f (u ++ 32 ∷ s) p.digits p.behind (blank_after digit u s refl p.no_digit) (blank_after is_point u s refl p.no_point) in
+    let whole = ap length at.whole in
+    let fraction = ap (λ x. length (pointed x)) at.fraction in
+    let unit = ap unit_length at.unit in
+    let text = ap number_length (numeral-append w f u (32 ∷ s)) in
+    omega (arith, unit_ended u s p.unit, length-append w (pointed f ++ u), length-append (pointed f) u)

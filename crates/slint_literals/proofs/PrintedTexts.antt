@@ -111,7 +111,7 @@ high_text [] h = refl
 high_text (b ∷ bs) h =
     ap (λ t. t ++ printed_text bs) (high_byte b (h 0 (omega arith))) ∙ ap (λ t. b ∷ t) (high_text bs (λ k p. h (suc k) (omega arith)))
 
-high_bytes : (c : ℕ) → 128 ≤ c → (k : ℕ) → k < length (encode c) → 128 ≤ get_or (encode c) k 0
+pub high_bytes : (c : ℕ) → 128 ≤ c → (k : ℕ) → k < length (encode c) → 128 ≤ get_or (encode c) k 0
 high_bytes c h k p = elim (cases_lt (get_or (encode c) k 0) 128) [
   | inl less ↦ let same : c ≡ get_or (encode c) k 0 = inside_one c [] (encode c) k (sym (append-nil (encode c))) p less in absurd (omega arith)
   | inr most ↦ most

@@ -24,7 +24,7 @@ fn is_text(bytes: &[u8]) -> bool
 }
 
 /// The text that bytes of UTF-8 are.
-pub(crate) fn text_of(bytes: &[u8]) -> &str
+pub fn text_of(bytes: &[u8]) -> &str
     requires { IsUtf8 bytes.now }
     ensures { result.now ≡ bytes.now }
 {

@@ -8,7 +8,7 @@ ghost use Rattle.slint_literals.specs.Strings.{text_step};
 use slint_base::{Memory, Text};
 
 /// The character that writes a digit below 16.
-fn digit_char(digit: u8) -> u8
+pub(crate) fn digit_char(digit: u8) -> u8
     requires { digit < 16 }
     ensures { result ≡ digit_char digit }
 {

@@ -8,8 +8,8 @@ use Rattle.std.proofs.lemmas.List.{reverse-append}
 use Rattle.std.proofs.lemmas.List.Elements.{All-head, All-tail}
 use Rattle.std.proofs.lemmas.List.Folds.{list_any-append}
 use Rattle.std.proofs.lemmas.Slice.Eq.{bytes_eq-Decides}
-use Rattle.slint_parser.specs.declared.trees.FirstFile.{FirstFile}
-use Rattle.slint_parser.specs.declared.trees.FirstProp.{FirstProp}
+use Rattle.first_parser.specs.declared.trees.FirstFile.{FirstFile}
+use Rattle.first_parser.specs.declared.trees.FirstProp.{FirstProp}
 use Rattle.script_lines.specs.declared.commands.Command.{Command}
 use Rattle.script_lines.specs.declared.commands.Command.TheVariants.{Get, Set}
 use Rattle.script_lines.specs.declared.commands.BadLine.{BadLine}

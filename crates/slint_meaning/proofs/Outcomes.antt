@@ -5,10 +5,10 @@ use Rattle.std.proofs.lemmas.Bool.{cases_lt, cases_Bool}
 use Rattle.slint_base.specs.declared.rules.Rule.TheVariants.{FileMissing, NotBuilt}
 use Rattle.slint_base.specs.Refusals.{at_start}
 use Rattle.io_edge.specs.Files.{FileList, bytes_named}
-use Rattle.slint_lexer.specs.declared.tokens.Token.{Token}
-use Rattle.slint_lexer.specs.Tokens.{Lexes, NoTokens}
-use Rattle.slint_parser.specs.declared.trees.FirstFile.{FirstFile}
-use Rattle.slint_parser.specs.Grammar.{DerivesFile, NoTree}
+use Rattle.first_lexer.specs.declared.tokens.Token.{Token}
+use Rattle.first_lexer.specs.Tokens.{Lexes, NoTokens}
+use Rattle.first_parser.specs.declared.trees.FirstFile.{FirstFile}
+use Rattle.first_parser.specs.Grammar.{DerivesFile, NoTree}
 use Rattle.slint_meaning.specs.Runs.{Outcome, Verdict, accepted, rejected, main_file, HasVerdict, run_verdict, unreadable, RunsFile, Runs, file_word}
 use Rattle.slint_meaning.specs.Sources.{IsSource, NoSource, are_bound, most_bytes}
 

@@ -1,6 +1,6 @@
 -- How lines follow one another: none halts, and a refused one leaves the world.
 use Rattle.std.proofs.Common.{◌≡◌, ℕ, ℤ, List, [], ◌∷◌, ◌++◌, Option, Some, None, Result, Ok, Err, refl, sym, ap, ◌∙◌, append_assoc}
-use Rattle.slint_parser.specs.declared.trees.FirstFile.{FirstFile}
+use Rattle.first_parser.specs.declared.trees.FirstFile.{FirstFile}
 use Rattle.script_lines.specs.declared.commands.Command.{Command}
 use Rattle.script_lines.specs.declared.commands.Command.TheVariants.{Get, Set}
 use Rattle.script_lines.specs.declared.commands.BadLine.{BadLine}

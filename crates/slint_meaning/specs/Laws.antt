@@ -1,6 +1,6 @@
 -- What the laws speak of: the answers of lines, the world after them, and lines that assign or ask for a property.
 use Rattle.std.specs.Prelude.{◌≡◌, ℕ, ℤ, List, [], ◌∷◌, ◌++◌, Some, Ok}
-use Rattle.slint_parser.specs.declared.trees.FirstFile.{FirstFile}
+use Rattle.first_parser.specs.declared.trees.FirstFile.{FirstFile}
 use Rattle.script_lines.specs.declared.commands.PathStep.{PathStep}
 use Rattle.script_lines.specs.declared.commands.Command.TheVariants.{Get, Set}
 use Rattle.script_lines.specs.Ints.{int_reading}

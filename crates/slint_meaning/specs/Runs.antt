@@ -4,7 +4,7 @@ use Rattle.slint_base.specs.declared.faults.Fault.{Fault}
 use Rattle.slint_base.specs.declared.rules.Rule.TheVariants.{FileMissing, NotBuilt}
 use Rattle.slint_base.specs.Refusals.{at_start, refusal_line, refusal_of}
 use Rattle.io_edge.specs.Files.{FileList, bytes_named}
-use Rattle.slint_parser.specs.declared.trees.FirstFile.{FirstFile}
+use Rattle.first_parser.specs.declared.trees.FirstFile.{FirstFile}
 use Rattle.slint_meaning.specs.declared.endings.Ending.{Ending}
 use Rattle.slint_meaning.specs.declared.endings.Ending.TheVariants.{Done, Words, Refused, ScriptLong}
 use Rattle.slint_meaning.specs.Commands.{Turn, goes_on, halts, written, does_line}
@@ -69,6 +69,10 @@ HasVerdict (Some bytes) (rejected fault) = (fault ≡ at_start NotBuilt main_fil
 -- the line of a source that is refused for a fault in a file of this name and these bytes
 abbrev pub verdict_line : List ℕ → List ℕ → Fault → List ℕ
 verdict_line name bytes fault = written (refusal_line (refusal_of name bytes fault))
+
+-- the line of a main file that isn't there
+abbrev pub missing_line : List ℕ → List ℕ
+missing_line name = verdict_line name [] (at_start FileMissing main_file)
 
 -- a run whose main file has this name, these bytes and this verdict
 abbrev pub run_verdict : List ℕ → List ℕ → Verdict → List ℕ → Outcome

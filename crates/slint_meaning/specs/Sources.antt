@@ -3,13 +3,13 @@ use Rattle.std.specs.Prelude.{ℕ, ◌≤◌, Bool, true, not, List, [], ◌∷�
 use Rattle.std.specs.List.{list_all, list_any}
 use Rattle.std.specs.Str.{bytes_eq}
 use Rattle.slint_base.specs.Numbers.{greatest_int}
-use Rattle.slint_lexer.specs.declared.tokens.Token.{Token}
-use Rattle.slint_lexer.specs.Tokens.{Lexes}
-use Rattle.slint_parser.specs.declared.trees.Factor.{Factor}
-use Rattle.slint_parser.specs.declared.trees.Factor.TheVariants.{Lit, Named}
-use Rattle.slint_parser.specs.declared.trees.FirstProp.{FirstProp}
-use Rattle.slint_parser.specs.declared.trees.FirstFile.{FirstFile}
-use Rattle.slint_parser.specs.Grammar.{DerivesFile}
+use Rattle.first_lexer.specs.declared.tokens.Token.{Token}
+use Rattle.first_lexer.specs.Tokens.{Lexes}
+use Rattle.first_parser.specs.declared.trees.Factor.{Factor}
+use Rattle.first_parser.specs.declared.trees.Factor.TheVariants.{Lit, Named}
+use Rattle.first_parser.specs.declared.trees.FirstProp.{FirstProp}
+use Rattle.first_parser.specs.declared.trees.FirstFile.{FirstFile}
+use Rattle.first_parser.specs.Grammar.{DerivesFile}
 
 -- the most bytes of a source
 abbrev pub most_bytes : ℕ

@@ -2,10 +2,10 @@
 use Rattle.std.specs.Prelude.{ℕ, ℤ, pos, ◌+ℤ◌, ◌*ℤ◌, List, [], ◌∷◌, reverse, fold, Option, None, Some, if◌then◌else◌}
 use Rattle.std.specs.Str.{bytes_eq}
 use Rattle.slint_base.specs.Numbers.{to_int}
-use Rattle.slint_parser.specs.declared.trees.Factor.{Factor}
-use Rattle.slint_parser.specs.declared.trees.Factor.TheVariants.{Lit, Named}
-use Rattle.slint_parser.specs.declared.trees.FirstProp.{FirstProp}
-use Rattle.slint_parser.specs.declared.trees.FirstFile.{FirstFile}
+use Rattle.first_parser.specs.declared.trees.Factor.{Factor}
+use Rattle.first_parser.specs.declared.trees.Factor.TheVariants.{Lit, Named}
+use Rattle.first_parser.specs.declared.trees.FirstProp.{FirstProp}
+use Rattle.first_parser.specs.declared.trees.FirstFile.{FirstFile}
 
 -- what a script changed so far: the values that were assigned to properties, the latest first
 pub record World : Type 0 where

@@ -1,5 +1,5 @@
 ghost use Rattle.std.specs.Prelude.{◌≡◌, ℕ, ℤ, List, [], ◌∷◌, ◌++◌, All};
-ghost use Rattle.slint_parser.specs.declared.trees.FirstFile.{FirstFile};
+ghost use Rattle.first_parser.specs.declared.trees.FirstFile.{FirstFile};
 ghost use Rattle.io_edge.specs.Files.{FileList};
 ghost use Rattle.slint_meaning.specs.declared.refusals.LineRefusal.{LineRefusal as Refusal};
 ghost use Rattle.slint_meaning.specs.Commands.{refusal_reply, value_reply};
@@ -7,8 +7,8 @@ ghost use Rattle.slint_meaning.specs.Laws.{answer_of, world_after, answers, Sets
 ghost use Rattle.slint_meaning.specs.Runs.{Outcome, behind, run_lines, Runs};
 ghost use Rattle.slint_meaning.specs.Values.{World};
 
-use slint_lexer::{one_reading, tokens_or_none};
-use slint_parser::{one_tree, tree_or_none};
+use first_lexer::{one_reading, tokens_or_none};
+use first_parser::{one_tree, tree_or_none};
 
 /// A law, which does nothing when it is called: a refused line leaves every other reply as it would be without that line.
 pub fn refused_lines_change_nothing()

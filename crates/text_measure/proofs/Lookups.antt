@@ -1,5 +1,5 @@
 -- A character's width in a table.
-use Rattle.std.proofs.Common.{◌≡◌, ℕ, zero, suc, ◌+◌, ◌<◌, ◌≤◌, cond, eqb, List, [], ◌∷◌, length, get_or, Ok, Err, sym, ap, ◌∙◌, ⊎_elim, refl, arith}
+use Rattle.std.proofs.Common.{◌≡◌, ℕ, zero, suc, ◌<◌, ◌≤◌, cond, List, [], ◌∷◌, length, get_or, Ok, Err, sym, ap, ◌∙◌, ⊎_elim, refl, arith}
 use Rattle.std.proofs.lemmas.Bool.{cases_lt, eq-eqb, ne_eqb}
 use Rattle.std.specs.Ordering.{nat_cmp}
 use Rattle.std.specs.List.Sorted.{IsBinarySearchResult}
@@ -44,4 +44,4 @@ pub searched_err : (cs ws : List ℕ) (d ch i : ℕ) → IsRising cs → IsBinar
 searched_err cs ws d ch i r e =
     let found = searched cs ch (Err i) e (rising-le cs r) in
     advance-missing cs ws d ch (λ k below same.
-        ⊎_elim (λ lt. absurd (omega (arith, found.1 k lt, same))) (λ ge. absurd (omega (arith, found.2 k ge below, same))) (cases_lt k i))
+    ⊎_elim (λ lt. absurd (omega (arith, found.1 k lt, same))) (λ ge. absurd (omega (arith, found.2 k ge below, same))) (cases_lt k i))

@@ -1,10 +1,9 @@
 -- What a pen comes to that goes over the rest of a text.
-use Rattle.std.proofs.Common.{◌≡◌, ℕ, zero, suc, ◌+◌, ◌*◌, ◌-◌, ◌^◌, ◌<◌, ◌≤◌, min, max, ℤ, pos, negsuc, ◌<ℤ◌, Bool, true, false, cond, eqb, leb, Option, None, Some, List, [], ◌∷◌, map, sum, sym, ap, ◌∙◌, ⊎_elim, subst, refl, arith}
+use Rattle.std.proofs.Common.{◌≡◌, ℕ, ◌+◌, ◌-◌, ◌^◌, min, max, ℤ, pos, cond, Option, None, Some, List, [], ◌∷◌, map, sum, sym, ap, ◌∙◌, refl, arith}
 use Rattle.std.specs.Prelude.{int_le}
-use Rattle.std.proofs.lemmas.Bool.{cases_lt, le-leb, lt-leb, eq-eqb, ne_eqb}
-use Rattle.std.proofs.lemmas.List.Sums.{sum_by-cons}
+use Rattle.std.proofs.lemmas.Bool.{eq-eqb, ne_eqb}
 use Rattle.text_measure.specs.Tables.{Table}
-use Rattle.text_measure.specs.Measures.{begun, parts, char_width, width_of, greatest, text_width, fits, breaks, rows_of, line_rows, text_rows}
+use Rattle.text_measure.specs.Measures.{begun, parts, char_width, width_of, greatest, text_width, fits, breaks, line_rows}
 
 -- a number as 64 bits have it
 abbrev pub cap : ℕ → ℕ

@@ -1,5 +1,5 @@
 -- Tables of characters' widths.
-use Rattle.std.specs.Prelude.{◌≡◌, ◌<◌, ℕ, List, [], ◌∷◌, length, slice_index, if◌then◌else◌, ◌==◌}
+use Rattle.std.specs.Prelude.{◌<◌, ℕ, List, [], ◌∷◌, length, slice_index, if◌then◌else◌, ◌==◌}
 
 -- how high a line is, how wide a character is that isn't listed, and the characters that are, with their widths: all in thousandths of the font size
 pub record Table : Type 0 where

@@ -87,8 +87,8 @@ impl Pen {
         ensures { MatchOption self.row (result ≡ record self { row = Some self.word; word = 0 }) (λ row.
             let whole = min (min (row + ruler.now.space) (2 ^ 64 - 1) + self.word) (2 ^ 64 - 1) in
             MatchBool (int_le (pos whole) ruler.now.room)
-                (result ≡ record self { row = Some whole; word = 0 })
-                (result ≡ record self { rows = min (self.rows + 1) (2 ^ 64 - 1); row = Some self.word; word = 0 })) }
+            (result ≡ record self { row = Some whole; word = 0 })
+            (result ≡ record self { rows = min (self.rows + 1) (2 ^ 64 - 1); row = Some self.word; word = 0 })) }
     {
         let Some(row) = self.row else {
             return Pen {
@@ -105,9 +105,11 @@ impl Pen {
                 ..self
             }
         } else {
+            let rows = self.rows.saturating_add(1);
+            let first = self.word;
             Pen {
-                rows: self.rows.saturating_add(1),
-                row: Some(self.word),
+                rows,
+                row: Some(first),
                 word: 0,
                 ..self
             }

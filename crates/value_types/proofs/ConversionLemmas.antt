@@ -58,7 +58,7 @@ tested : (fields : List (List ℕ × Value)) (wanted : List (List ℕ × Ty))
 tested fields wanted = ap (λ b. b || names_within wanted (with_values converted fields)) (names_within-of_values converted wanted fields) ∙ ap (λ b. names_within fields wanted || b) (names_within-with_values converted wanted fields)
 
 -- what is left of a list, at a place
-left_at : {X : Type 0} (xs : List X) (i : ℕ) (x : X) → i < length xs → x ≡ get_or xs i x → drop i xs ≡ x ∷ drop (i + 1) xs
+pub left_at : {X : Type 0} (xs : List X) (i : ℕ) (x : X) → i < length xs → x ≡ get_or xs i x → drop i xs ≡ x ∷ drop (i + 1) xs
 left_at xs i x within e = rw (add-one, drop-cons xs i x) (ap (λ y. y ∷ drop (suc i) xs) (sym e))
 
 -- one more that is there, or one that isn't

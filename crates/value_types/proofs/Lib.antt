@@ -1,3 +1,4 @@
+pub mod CommonLemmas
 pub mod ConversionLemmas
 pub mod Fractions
 pub mod Sames

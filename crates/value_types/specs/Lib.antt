@@ -1,3 +1,5 @@
+pub mod ColourNames
+pub mod CommonTypes
 pub mod Conversions
 pub mod Defaults
 pub mod Printed

@@ -1,6 +1,8 @@
 //! The values of the language and their types.
 #![tactic(auto)]
 
+mod color_names;
+mod common_types;
 mod converting;
 mod decimals;
 mod defaults;
@@ -8,10 +10,13 @@ mod enums;
 mod facets;
 mod printing;
 mod sameness;
+mod scalar_types;
 mod scalars;
 mod types;
 mod values;
 
+pub use color_names::color_named;
+pub use common_types::common_type;
 pub use converting::convert;
 pub use defaults::default_of;
 pub use enums::{EnumNames, Enums};

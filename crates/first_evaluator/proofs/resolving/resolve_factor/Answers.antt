@@ -1,7 +1,7 @@
 use Rattle.std.proofs.Common.{◌≡◌, ℕ, false, List, Option, None, Some, cond, option_map, sym, ap, ◌∙◌}
 use Rattle.slint_base.specs.declared.faults.Span.{Span}
-use Rattle.slint_parser.specs.declared.trees.Factor.{Factor}
-use Rattle.slint_parser.specs.declared.trees.Factor.TheVariants.{Named}
+use Rattle.first_parser.specs.declared.trees.Factor.{Factor}
+use Rattle.first_parser.specs.declared.trees.Factor.TheVariants.{Named}
 use Rattle.slint_meaning.specs.Sources.{has_name, reserved_words}
 use Rattle.first_evaluator.specs.declared.resolving.Operand.{Operand}
 use Rattle.first_evaluator.specs.declared.resolving.Operand.TheVariants.{Property}

@@ -1,4 +1,4 @@
-use Rattle.std.proofs.Common.{ℤ, ◌+ℤ◌, ◌≤ℤ◌, arith}
+use Rattle.std.proofs.Common.{arith}
 use Rattle.std.proofs.lemmas.Int.{ints, clamps}
 use Rattle.layout_solve.proofs.Bounds.{more_at-is}
 use Rattle.layout_solve.proofs.boxes.gift.Goals as goal

@@ -1,6 +1,5 @@
-use Rattle.std.proofs.Common.{◌≡◌, ℤ, to_z, of_z, w64, subst}
+use Rattle.std.proofs.Common.{w64, subst}
 use Rattle.std.proofs.lemmas.Int.{to_z-of_z}
-use Rattle.layout_solve.specs.Sizes.{IsSizing}
 use Rattle.layout_solve.proofs.Wide.{IsHeld}
 use Rattle.layout_solve.proofs.Sharing.{IsRoom, room_fits, divided-by}
 use Rattle.layout_solve.proofs.boxes.solve_box.Goals as goal

@@ -1,4 +1,4 @@
-use Rattle.std.proofs.Common.{◌≡◌, ℕ, ◌<◌, ◌≤◌, ◌+◌, cond, eqb, length, get_or, ap, ◌∙◌, refl, arith}
+use Rattle.std.proofs.Common.{get_or, ap, ◌∙◌, refl, arith}
 use Rattle.layout_solve.specs.Tracks.{empty_track, least_track}
 use Rattle.layout_solve.proofs.TrackSteps.{folded-more, marked_all, alone-yes, alone-no, get_or-set_cond, no_cell}
 use Rattle.layout_solve.proofs.grids.begin_alone.Goals as goal

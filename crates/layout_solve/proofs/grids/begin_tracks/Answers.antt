@@ -1,6 +1,6 @@
-use Rattle.std.proofs.Common.{◌≡◌, ℕ, cond, length, ap, ◌∙◌, arith}
+use Rattle.std.proofs.Common.{◌≡◌, cond, length, ap, ◌∙◌, arith}
 use Rattle.std.specs.List.{fold, list_any}
-use Rattle.layout_solve.specs.Tracks.{empty_track, loose_track, least_track, greatest_item, is_alone, reaches, items_alone}
+use Rattle.layout_solve.specs.Tracks.{loose_track, least_track, greatest_item, is_alone, reaches, items_alone}
 use Rattle.layout_solve.proofs.FirstTracks.{first_tracks-are, marked-are}
 use Rattle.layout_solve.proofs.grids.begin_tracks.Goals as goal
 

@@ -1,4 +1,3 @@
-use Rattle.std.proofs.Common.{◌≡◌, arith}
 use Rattle.layout_solve.proofs.Greatest.{same_item, most-is}
 use Rattle.layout_solve.proofs.Growth.{item_min, item_pref, item_max, item_weight}
 use Rattle.layout_solve.proofs.grids.greatest.Goals as goal

@@ -1,9 +1,7 @@
-use Rattle.std.proofs.Common.{◌≡◌, ℕ, ◌<◌, ◌≤◌, length, get_or, All, ap, subst, sym, ◌∙◌, refl, w64, arith}
-use Rattle.std.proofs.lemmas.Int.{to_z-of_z}
+use Rattle.std.proofs.Common.{length, get_or, All, ap, subst, sym, ◌∙◌}
 use Rattle.layout_solve.specs.Items.{IsItem}
-use Rattle.layout_solve.specs.Tracks.{widened}
 use Rattle.layout_solve.proofs.TrackSteps.{no_cell}
-use Rattle.layout_solve.proofs.Widening.{widening-more, widened-no, widening_all}
+use Rattle.layout_solve.proofs.Widening.{widening-more, widened-no}
 use Rattle.layout_solve.proofs.grids.grid_tracks.Goals as goal
 use Rattle.layout_solve.proofs.grids.grid_tracks.Goals.{then-cell-gt1, else-cell-gt1}
 

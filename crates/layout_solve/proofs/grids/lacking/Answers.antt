@@ -1,4 +1,3 @@
-use Rattle.std.proofs.Common.{◌≡◌, ◌≤ℤ◌, arith}
 use Rattle.layout_solve.proofs.Widening.{lacking-is, lacking_small}
 use Rattle.layout_solve.proofs.grids.lacking.Goals as goal
 

@@ -1,4 +1,4 @@
-use Rattle.std.proofs.Common.{◌≡◌, ℕ, ◌<◌, ◌≤◌, length, cond, ◌&&◌, leb, ltb, get_or, ap, ◌∙◌, arith}
+use Rattle.std.proofs.Common.{◌≡◌, cond, ◌&&◌, leb, ltb, get_or, ap, ◌∙◌, arith}
 use Rattle.layout_solve.specs.Tracks.{empty_track, loose_track}
 use Rattle.layout_solve.proofs.TrackSteps.{range-none, range-set}
 use Rattle.layout_solve.proofs.grids.loosen.Goals as goal

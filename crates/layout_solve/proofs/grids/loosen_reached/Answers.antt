@@ -1,5 +1,5 @@
-use Rattle.std.proofs.Common.{◌≡◌, ℕ, ◌<◌, ◌≤◌, ◌+◌, cond, ◌&&◌, leb, ltb, length, get_or, ap, ◌∙◌, refl, arith}
-use Rattle.layout_solve.specs.Tracks.{empty_track, loose_track}
+use Rattle.std.proofs.Common.{get_or, ap, ◌∙◌, refl, arith}
+use Rattle.layout_solve.specs.Tracks.{empty_track}
 use Rattle.layout_solve.proofs.TrackSteps.{folded-more, marked_all, reached-yes, reached-no, no_cell}
 use Rattle.layout_solve.proofs.grids.loosen_reached.Goals as goal
 use Rattle.layout_solve.proofs.grids.loosen_reached.Goals.{then-cell-gt1, else-cell-gt1}

@@ -1,9 +1,9 @@
-use Rattle.std.proofs.Common.{◌≡◌, ℕ, ◌<◌, ◌≤◌, ◌+◌, cond, eqb, length, get_or, All, ap, subst, sym, ◌∙◌, refl, arith}
+use Rattle.std.proofs.Common.{◌<◌, length, get_or, All, ap, subst, sym, ◌∙◌, refl, arith}
 use Rattle.std.proofs.lemmas.List.Elements.{All-set}
 use Rattle.layout_solve.specs.Items.{IsItem}
 use Rattle.layout_solve.specs.Tracks.{empty_track}
 use Rattle.layout_solve.proofs.Greatest.{greatest_item-is, topped-set}
-use Rattle.layout_solve.proofs.TrackSteps.{IsTopping, folded-more, topped_all, topped-yes, topped-no, no_cell}
+use Rattle.layout_solve.proofs.TrackSteps.{folded-more, topped_all, topped-yes, topped-no, no_cell}
 use Rattle.layout_solve.proofs.grids.raise_alone.Goals as goal
 use Rattle.layout_solve.proofs.grids.raise_alone.Goals.{then-cell-eq1, else-cell-eq1}
 

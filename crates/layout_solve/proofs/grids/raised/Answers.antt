@@ -1,4 +1,4 @@
-use Rattle.std.proofs.Common.{◌≡◌, ℤ, subst, sym, arith}
+use Rattle.std.proofs.Common.{subst, sym}
 use Rattle.layout_solve.specs.Items.{IsItem}
 use Rattle.layout_solve.proofs.Growth.{item_min, item_pref}
 use Rattle.layout_solve.proofs.Raising.{raised_track-is, more-is, raised-by}

@@ -1,4 +1,4 @@
-use Rattle.std.proofs.Common.{◌≡◌, ◌-◌, ℤ, pos, ◌*ℤ◌, ap, ◌∙◌, w64, arith}
+use Rattle.std.proofs.Common.{◌≡◌, ◌-◌, pos, ◌*ℤ◌, ap, ◌∙◌, w64}
 use Rattle.std.proofs.lemmas.Int.{to_z-of_z}
 use Rattle.std.proofs.lemmas.List.Elements.{All-set}
 use Rattle.layout_solve.specs.Items.{IsItem}

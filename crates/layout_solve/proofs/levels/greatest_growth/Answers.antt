@@ -1,7 +1,6 @@
-use Rattle.std.proofs.Common.{◌≡◌, ◌≤ℤ◌, ◌<ℤ◌, ◌<◌, ◌≤◌, map, ℤ, to_z, of_z, w64, sym, ap, ◌∙◌, arith}
+use Rattle.std.proofs.Common.{w64, sym, arith}
 use Rattle.std.proofs.lemmas.Int.{to_z-of_z}
-use Rattle.layout_solve.specs.Sizes.{total, grown, are_weightless}
-use Rattle.layout_solve.proofs.Halving.{between-first, between-raised, between-lowered, between-last}
+use Rattle.layout_solve.proofs.Halving.{between-first, between-raised, between-lowered}
 use Rattle.layout_solve.proofs.levels.greatest_growth.Goals as goal
 
 pub loop-low-init : goal.loop-low-init

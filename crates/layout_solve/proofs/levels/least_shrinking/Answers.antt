@@ -1,6 +1,6 @@
-use Rattle.std.proofs.Common.{◌≡◌, ◌≤ℤ◌, ◌<ℤ◌, ◌<◌, ◌≤◌, map, ℤ, to_z, of_z, w64, sym, ap, ◌∙◌, arith}
+use Rattle.std.proofs.Common.{w64, arith}
 use Rattle.std.proofs.lemmas.Int.{to_z-of_z}
-use Rattle.layout_solve.proofs.Halving.{around-first, around-raised, around-lowered, around-last}
+use Rattle.layout_solve.proofs.Halving.{around-first, around-raised}
 use Rattle.layout_solve.proofs.levels.least_shrinking.Goals as goal
 
 pub loop-low-init : goal.loop-low-init

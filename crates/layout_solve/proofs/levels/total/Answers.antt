@@ -1,5 +1,4 @@
-use Rattle.std.proofs.Common.{◌≡◌, ◌+ℤ◌, ◌^◌, ◌<◌, ℤ, ◌∙◌, arith}
-use Rattle.layout_solve.specs.Sizes.{size_at}
+use Rattle.std.proofs.Common.{arith}
 use Rattle.layout_solve.proofs.Bounds.{size_within}
 use Rattle.layout_solve.proofs.Totals.{summed_held, summed-more, summed_all, summed_wide}
 use Rattle.layout_solve.proofs.Wide.{held_fits, kept-is, added-is}

@@ -1,4 +1,4 @@
-use Rattle.std.proofs.Common.{◌≡◌, ℤ, pos, ◌+ℤ◌, to_z, of_z, w64, ap, ◌∙◌, length, arith}
+use Rattle.std.proofs.Common.{pos, to_z, of_z, w64, ap, ◌∙◌, length, arith}
 use Rattle.std.proofs.lemmas.Int.{ints, to_z-of_z}
 use Rattle.layout_solve.specs.Items.{IsWithinLimits}
 use Rattle.layout_solve.specs.Places.{shift}

@@ -1,4 +1,4 @@
-use Rattle.std.proofs.Common.{◌≡◌, ◌^◌, ◌<◌, ℤ, map-id, ap, ◌∙◌, refl, arith}
+use Rattle.std.proofs.Common.{map-id, ap, ◌∙◌, refl, arith}
 use Rattle.layout_solve.specs.Sizes.{total}
 use Rattle.layout_solve.proofs.Totals.{summed_held, summed-more, summed_all, summed_wide}
 use Rattle.layout_solve.proofs.Wide.{held_fits, kept-is, added-is}

@@ -1,5 +1,5 @@
-use Rattle.std.proofs.Common.{◌≡◌, ◌^◌, ◌<◌, ℤ, pos, to_z, of_z, ap, ◌∙◌, arith, w64}
-use Rattle.layout_solve.specs.Sizes.{weight_in, grown}
+use Rattle.std.proofs.Common.{◌≡◌, to_z, of_z, ap, ◌∙◌, arith, w64}
+use Rattle.layout_solve.specs.Sizes.{grown}
 use Rattle.layout_solve.proofs.Wide.{cast-is, cast_fits}
 use Rattle.layout_solve.proofs.Growth.{IsRead, wanted-fits, grown_within, grown-by}
 use Rattle.layout_solve.proofs.sizings.grown.Goals as goal

@@ -1,4 +1,4 @@
-use Rattle.std.proofs.Common.{◌≡◌, ◌^◌, ◌<◌, ℤ, arith}
+use Rattle.std.proofs.Common.{arith}
 use Rattle.layout_solve.proofs.Growth.{left-is}
 use Rattle.layout_solve.proofs.sizings.growth_left.Goals as goal
 

@@ -1,6 +1,6 @@
-use Rattle.std.proofs.Common.{◌≡◌, ◌^◌, ◌<◌, ℤ, arith}
+use Rattle.std.proofs.Common.{◌≡◌, arith}
 use Rattle.layout_solve.specs.Sizes.{shrunk}
-use Rattle.layout_solve.proofs.Wide.{cast-is, cast_fits}
+use Rattle.layout_solve.proofs.Wide.{cast-is}
 use Rattle.layout_solve.proofs.Growth.{shrunk_within, shrunk-by}
 use Rattle.layout_solve.proofs.sizings.shrunk.Goals as goal
 

@@ -1,7 +1,8 @@
 use Rattle.std.proofs.Common.{◌≡◌, ℕ, List, Some, sym, ◌∙◌, rules}
 use Rattle.std.specs.Prelude.{ℤ}
 use Rattle.std.proofs.lemmas.Result.{on_ok_weaker}
-use Rattle.slint_meaning.specs.Commands.{Target, property, does_assign, does_set, int_reading, target_of}
+use Rattle.script_lines.specs.Ints.{int_reading}
+use Rattle.slint_meaning.specs.Commands.{Target, property, does_assign, does_set, target_of}
 use Rattle.slint_meaning.specs.Values.{World}
 use Rattle.first_evaluator.specs.Live.{Live}
 use Rattle.slint_cli.specs.Turns.{Answers}

@@ -1,7 +1,7 @@
 use Rattle.std.proofs.Common.{◌≡◌, true, List, [], ◌∷◌, length, get_or, arith, rules, refl, is_none, codes}
 use Rattle.std.specs.Str.{bytes_eq}
-use Rattle.slint_parser.specs.declared.trees.FirstFile.{FirstFile}
-use Rattle.slint_meaning.specs.declared.commands.PathStep.{PathStep}
+use Rattle.first_parser.specs.declared.trees.FirstFile.{FirstFile}
+use Rattle.script_lines.specs.declared.commands.PathStep.{PathStep}
 use Rattle.slint_meaning.specs.Commands.{target_of, property}
 use Rattle.slint_meaning.specs.Sources.{has_name, names_of}
 use Rattle.slint_cli.proofs.NameLookups.{has_name-at}

@@ -1,6 +1,6 @@
 use Rattle.std.proofs.Common.{map, string_bytes}
 use Rattle.slint_meaning.specs.Runs.{file_word}
-use Rattle.slint_cli.specs.Made.{outcome_of}
+use Rattle.slint_cli.specs.Outputs.{outcome_of}
 use Rattle.slint_cli.proofs.FilesFound.{ran_unreadable}
 use Rattle.slint_cli.proofs.running.run_words.Goals as goal
 

@@ -1,11 +1,10 @@
 use Rattle.std.proofs.Common.{◌≡◌, ap, subst, ◌∙◌, length, rules}
-use Rattle.slint_parser.specs.declared.trees.FirstFile.{FirstFile}
+use Rattle.first_parser.specs.declared.trees.FirstFile.{FirstFile}
 use Rattle.slint_meaning.specs.Commands.{does_line}
-use Rattle.slint_meaning.specs.Lines.{lines_of}
+use Rattle.script_lines.specs.Lines.{lines_of}
 use Rattle.slint_meaning.specs.Runs.{behind, run_lines}
 use Rattle.slint_cli.specs.Turns.{Answers}
-use Rattle.slint_cli.proofs.LineCuts.{lines_of-none}
-use Rattle.slint_cli.proofs.LineRuns.{run_lines-answered}
+use Rattle.slint_cli.proofs.LineRuns.{lines_of-none, run_lines-answered}
 use Rattle.slint_cli.proofs.script.answer_lines.Goals as goal
 
 pub loop-rest-preserved : goal.loop-rest-preserved

@@ -1,5 +1,5 @@
 use Rattle.std.proofs.Common.{◌≡◌, length}
-use Rattle.slint_meaning.specs.Lines.{lines_of}
+use Rattle.script_lines.specs.Lines.{lines_of}
 use Rattle.slint_meaning.specs.Runs.{Outcome, behind, run_lines}
 use Rattle.slint_meaning.specs.Values.{World}
 use Rattle.first_evaluator.specs.Live.{Shows}

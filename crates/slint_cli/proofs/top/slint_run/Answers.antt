@@ -1,23 +1,16 @@
 use Rattle.std.proofs.Common.{map, string_bytes}
 use Rattle.slint_meaning.specs.Runs.{file_word}
-use Rattle.slint_cli.proofs.RunEnds.{memory_ends, fault_ends, memory_ends_told, fault_ends_told, missed_written}
+use Rattle.slint_cli.proofs.RunEnds.{stopped_ends, stopped_ends_told, missed_written}
 use Rattle.slint_cli.proofs.top.slint_run.Goals as goal
 
-pub returns-in-Err-Memory-clause-told : goal.returns-in-Err-Memory-clause-told
-returns-in-Err-Memory-clause-told g c = λ held text _ _. memory_ends c.some_outcome.ensures (map string_bytes c.args.words.items) held text (g.K.Sink.taken c.args.out.now)
-
-pub returns-in-Err-Memory-clause-ran : goal.returns-in-Err-Memory-clause-ran
-returns-in-Err-Memory-clause-ran g c =
-    memory_ends_told c.some_outcome.ensures (map string_bytes c.args.words.items) (g.F.Files.held c.args.files.now) (g.S.Source.left c.args.script.now) (g.K.Sink.taken c.args.out.now)
-
 pub returns-clause-told : goal.returns-clause-told
-returns-clause-told g c = λ held text _ _. fault_ends c.some_outcome.ensures (map string_bytes c.args.words.items) held text (g.K.Sink.taken c.args.out.now)
+returns-clause-told g c = λ held text _ _. stopped_ends c.some_outcome.ensures c.in-Err.stop (map string_bytes c.args.words.items) held text (g.K.Sink.taken c.args.out.now)
 
 pub returns-clause-ran : goal.returns-clause-ran
 returns-clause-ran g c =
-    fault_ends_told c.some_outcome.ensures (map string_bytes c.args.words.items) (g.F.Files.held c.args.files.now) (g.S.Source.left c.args.script.now) (g.K.Sink.taken c.args.out.now)
+    stopped_ends_told c.some_outcome.ensures c.in-Err.stop (map string_bytes c.args.words.items) (g.F.Files.held c.args.files.now) (g.S.Source.left c.args.script.now) (g.K.Sink.taken c.args.out.now)
 
 pub returns-in-Ok-clause-missed : goal.returns-in-Ok-clause-missed
 returns-in-Ok-clause-missed g c = λ name before named refused had has.
-    missed_written (file_word (map string_bytes c.args.words.items)) c.write_outcome.result c.in-Ok.outcome (g.K.Sink.taken c.args.out.now) (g.K.Sink.taken c.write_outcome.new.out)
-    (g.F.Files.misses c.args.files.now) (g.F.Files.misses c.run_words.new.files) name before (rw c.deref.ensures.value at c.in-Ok.ensures.missed) c.write_outcome.ensures.writes named refused had has
+    missed_written (file_word (map string_bytes c.args.words.items)) c.write_output.result c.in-Ok.output (g.K.Sink.taken c.args.out.now) (g.K.Sink.taken c.write_output.new.out)
+    (g.F.Files.misses c.args.files.now) (g.F.Files.misses c.run_words.new.files) name before (rw c.deref.ensures.value at c.in-Ok.ensures.missed) c.write_output.ensures.writes named refused had has

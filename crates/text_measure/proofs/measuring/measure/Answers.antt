@@ -1,8 +1,6 @@
-use Rattle.std.proofs.Common.{◌≡◌, ◌*◌, ℕ, pos, w64, sym, subst, ap, ◌∙◌, arith}
+use Rattle.std.proofs.Common.{◌≡◌, w64, ap, ◌∙◌}
 use Rattle.std.proofs.lemmas.Int.{to_z-of_z}
 use Rattle.std.specs.Str.{chars}
-use Rattle.slint_base.specs.Numbers.{sat}
-use Rattle.text_measure.specs.declared.measuring.Size.{Size}
 use Rattle.text_measure.specs.Measures.{font_size, scaled, text_width, text_rows}
 use Rattle.text_measure.proofs.Pens.{cap}
 use Rattle.text_measure.proofs.Sizes.{size-is}
@@ -14,8 +12,8 @@ returns c =
     let t = c.args.table.now in
     let w = c.written-pen.ensures in
     size-is _ _ _ _ _ (text_width t (font_size c.args.font) (chars c.args.text.now)) (text_rows t (font_size c.args.font) c.args.width (chars c.args.text.now)) (scaled (font_size c.args.font) t.line)
-        (ap cap c.from.ensures ∙ w.width ∙ ap (λ n. cap (text_width t n (chars c.args.text.now))) size)
-        (ap cap c.from-2.ensures ∙ w.rows ∙ ap (λ n. cap (text_rows t n c.args.width (chars c.args.text.now))) size)
-        (c.from-3.ensures ∙ c.scaled.ensures ∙ ap (λ n. cap (scaled n c.line.result)) size ∙ ap (λ n. cap (scaled (font_size c.args.font) n)) c.line.ensures)
-        c.saturated.ensures
-        c.saturated-2.ensures
+    (ap cap c.from.ensures ∙ w.width ∙ ap (λ n. cap (text_width t n (chars c.args.text.now))) size)
+    (ap cap c.from-2.ensures ∙ w.rows ∙ ap (λ n. cap (text_rows t n c.args.width (chars c.args.text.now))) size)
+    (c.from-3.ensures ∙ c.scaled.ensures ∙ ap (λ n. cap (scaled n c.line.result)) size ∙ ap (λ n. cap (scaled (font_size c.args.font) n)) c.line.ensures)
+    c.saturated.ensures
+    c.saturated-2.ensures

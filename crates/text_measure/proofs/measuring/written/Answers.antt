@@ -1,4 +1,4 @@
-use Rattle.std.proofs.Common.{◌≡◌, ℕ, ◌<◌, ◌+◌, List, ◌++◌, [], ◌∷◌, length, get_or, drop, FitsSigned, subst, sym, ap, refl, arith}
+use Rattle.std.proofs.Common.{ℕ, List, length, drop, FitsSigned, subst, sym, refl, arith}
 use Rattle.std.specs.Int.{w128}
 use Rattle.std.specs.Str.{chars}
 use Rattle.std.proofs.lemmas.Iterator.{YieldsList-from_chars}

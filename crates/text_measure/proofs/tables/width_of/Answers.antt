@@ -1,4 +1,3 @@
-use Rattle.std.proofs.Common.{◌≡◌, ◌<◌, ℕ, length, get_or, sym, ap, ◌∙◌, arith}
 use Rattle.text_measure.proofs.Lookups.{searched_ok, searched_err}
 use Rattle.text_measure.proofs.tables.width_of.Goals as goal
 

@@ -1,6 +1,6 @@
 use Rattle.std.proofs.Common.{◌≡◌, false, sym, ap, ◌∙◌}
 use mathlib.Core.List.{reverse}
-use Rattle.slint_parser.specs.declared.trees.FirstFile.{FirstFile}
+use Rattle.first_parser.specs.declared.trees.FirstFile.{FirstFile}
 use Rattle.slint_meaning.specs.Sources.{has_name, names_of}
 use Rattle.first_evaluator.specs.Resolved.{place_among}
 use Rattle.first_evaluator.proofs.ResolvedSums.{placed, placed_within}

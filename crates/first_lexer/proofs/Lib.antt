@@ -1,0 +1,5 @@
+pub mod Either
+pub mod Front
+pub mod Lexings
+pub mod Numbers
+pub mod Progress

@@ -1,0 +1,17 @@
+pub mod Sets
+pub mod Tables
+pub mod Spans
+pub mod FirstToken
+pub mod AfterToken
+pub mod Completion
+pub mod Outcomes
+pub mod OneFault
+pub mod Stopping
+pub mod Steps
+pub mod Terminals
+pub mod Members
+pub mod Heads
+pub mod GoesOn
+pub mod Predicted
+pub mod Table
+pub mod OneTree

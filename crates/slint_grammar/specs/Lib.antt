@@ -1,0 +1,7 @@
+pub mod Parts
+pub mod Grammar
+pub mod Trees
+pub mod Made
+pub mod Derivations
+pub mod Faults
+pub mod Stacks

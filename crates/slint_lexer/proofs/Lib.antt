@@ -1,0 +1,11 @@
+pub mod CommentTexts
+pub mod Fronts
+pub mod NameTexts
+pub mod OneAnswer
+pub mod Same
+pub mod Readings
+pub mod ReadyTokens
+pub mod Spellings
+pub mod SymbolTexts
+pub mod TopSymbols
+pub mod WrittenTokens
