@@ -2,6 +2,7 @@
 use Rattle.std.specs.Prelude.{ℕ, Bool, true, false, List, [], ◌∷◌, Option, Some, None}
 use Rattle.slint_base.specs.declared.faults.Span.{Span}
 use Rattle.slint_literals.specs.declared.numbers.Number.{Number}
+use Rattle.syntax_tree.specs.Spans.{expr_span}
 use Rattle.syntax_tree.specs.declared.words.Ident.{Ident as TheIdent}
 use Rattle.syntax_tree.specs.declared.words.Quoted.{Quoted as TheQuoted}
 use Rattle.syntax_tree.specs.declared.words.Path.{Path as ThePath}
@@ -55,7 +56,7 @@ use Rattle.slint_grammar.specs.Parts.{Listed, Part, FileItems, FileItem, ImportN
 use Rattle.slint_grammar.specs.Grammar.{Terminal, Sign, SignWhere, TheWord, AnyName, NameBut, ANumber, AColour, AText, AHead, AMid, ATail, Slot, one, same, deeper, Alt, slots, item}
 use Rattle.slint_grammar.specs.Grammar.{Alt as alts}
 use Rattle.slint_grammar.specs.Trees as t
-use Rattle.slint_grammar.specs.Trees.{join, or_end, expr_span, operand, chain, postfix, may_choose, block_span, if_span, return_of, assign_or_expr, if_element, for_element}
+use Rattle.slint_grammar.specs.Trees.{join, or_end, operand, chain, postfix, may_choose, block_span, if_span, return_of, assign_or_expr, if_element, for_element}
 
 -- an item of a list
 abbrev pub ItemTree : Listed → Type 0

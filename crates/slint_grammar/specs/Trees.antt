@@ -1,6 +1,7 @@
 -- How trees are put together from the trees of their parts.
 use Rattle.std.specs.Prelude.{List, [], ◌∷◌, Option, Some, None}
 use Rattle.slint_base.specs.declared.faults.Span.{Span}
+use Rattle.syntax_tree.specs.Spans.{expr_span}
 use Rattle.syntax_tree.specs.declared.words.Ident.{Ident}
 use Rattle.syntax_tree.specs.declared.words.Quoted.{Quoted}
 use Rattle.syntax_tree.specs.declared.types.TypeName.{TypeName}
@@ -32,30 +33,7 @@ abbrev pub or_end : Span → Option Span → Span
 or_end a None = a
 or_end a (Some b) = b
 
--- one level of an expression
-abbrev pub ExprLayer : Type 0
-ExprLayer = Expr-F Expr Suffix FieldValue Hole Operand
-
-abbrev pub layer_span : ExprLayer → Span
-layer_span (Expr-F.Number n span) = span
-layer_span (Expr-F.Colour c span) = span
-layer_span (Expr-F.Text t span) = span
-layer_span (Expr-F.Template t holes span) = span
-layer_span (Expr-F.Name ident span) = span
-layer_span (Expr-F.Paren e span) = span
-layer_span (Expr-F.Array es span) = span
-layer_span (Expr-F.Struct fs span) = span
-layer_span (Expr-F.ImageUrl path span) = span
-layer_span (Expr-F.Tr context text es span) = span
-layer_span (Expr-F.Postfix e ss span) = span
-layer_span (Expr-F.Prefix op e span) = span
-layer_span (Expr-F.Chain e os span) = span
-layer_span (Expr-F.Choice c a b span) = span
-
--- the stretch of an expression
-abbrev pub expr_span : Expr → Span
-expr_span e = layer_span (out-Expr e)
-
+-- a field of a struct type, or a parameter
 abbrev pub field : Ident → TypeName → Field
 field name ty = roll-Field (record { name = name; ty = ty })
 

@@ -1,3 +1,6 @@
+ghost use Rattle.std.specs.Prelude.{◌≡◌};
+ghost use Rattle.syntax_tree.specs.Spans.{expr_span};
+
 use crate::{Ident, Quoted};
 use slint_base::{Span, Text};
 use slint_literals::Number;
@@ -94,7 +97,9 @@ pub struct Operand {
 
 impl Expr {
     /// The stretch from the expression's first token to its last one.
-    pub fn span(&self) -> Span {
+    pub fn span(&self) -> Span
+        ensures { result ≡ expr_span self.now }
+    {
         match self {
             Expr::Number(_, span)
             | Expr::Colour(_, span)
