@@ -5,9 +5,9 @@ ghost use Rattle.slint_base.specs.Refusals.{at_start};
 ghost use Rattle.slint_meaning.specs.Sources.{are_bound, has_name, names_of, reserved_words};
 ghost use Rattle.first_evaluator.specs.Resolved.{operand_of, product_of, resolution, sum_of, sums_of};
 
+use first_parser::{Factor, FirstFile};
 use slint_base::{End, Fault, Memory, Name, Rule, at_start};
 use slint_meaning::MAIN_FILE;
-use first_parser::{Factor, FirstFile};
 use sqlite_items::Items;
 use std::alloc::Global;
 use std::collections::BTreeMap;

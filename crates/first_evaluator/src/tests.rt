@@ -1,6 +1,6 @@
 use crate::{Evaluator, resolve};
-use slint_base::{End, Fault, Memory, Name, Rule, Span};
 use first_parser::{Factor, FirstFile, FirstProp};
+use slint_base::{End, Fault, Memory, Name, Rule, Span};
 use sqlite_items::Items;
 use std::alloc::Global;
 use std::test::Fail;

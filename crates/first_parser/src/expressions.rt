@@ -5,8 +5,8 @@ ghost use Rattle.first_parser.specs.Reading.{found, factor_at, product_at, sum_a
 use crate::refusal::Underivable;
 use crate::steps::past_sign;
 use crate::trees::{Factor, Terms};
-use slint_base::End;
 use first_lexer::{Token, TokenKind};
+use slint_base::End;
 use sqlite_items::Items;
 use std::alloc::Global;
 

@@ -9,8 +9,8 @@ use crate::properties::props_of;
 use crate::refusal::Underivable;
 use crate::steps::{name_of, past_optional_word, past_sign, past_word};
 use crate::trees::FirstFile;
-use slint_base::{End, Memory};
 use first_lexer::Token;
+use slint_base::{End, Memory};
 use std::alloc::Global;
 
 /// The tokens after `inherits Window`, which may be left out.

@@ -6,8 +6,8 @@ use crate::expressions::sum_of;
 use crate::refusal::Underivable;
 use crate::steps::{name_of, past_optional_word, past_sign, past_word};
 use crate::trees::{FirstProp, FirstProps, Terms};
-use slint_base::End;
 use first_lexer::Token;
+use slint_base::End;
 use sqlite_items::Items;
 use std::alloc::Global;
 

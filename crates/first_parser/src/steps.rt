@@ -2,8 +2,8 @@ ghost use Rattle.std.specs.Prelude.{◌≡◌};
 ghost use Rattle.first_parser.specs.Reading.{is_sign, is_word, sign_at, word_at, optional_word_at, name_at, Reads};
 
 use crate::refusal::Underivable;
-use slint_base::{Name, Span};
 use first_lexer::{Token, TokenKind};
+use slint_base::{Name, Span};
 
 /// Whether a token of this kind is spelled by this sign alone.
 fn is_sign(kind: &TokenKind, sign: char) -> bool

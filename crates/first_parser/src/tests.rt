@@ -1,7 +1,7 @@
 use crate::trees::{Factor, FirstFile};
 use crate::{one_tree, parse_first};
-use slint_base::{Memory, Name, Span};
 use first_lexer::{Token, TokenKind};
+use slint_base::{Memory, Name, Span};
 use sqlite_items::Items;
 use std::alloc::Global;
 use std::test::*;

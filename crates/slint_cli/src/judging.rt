@@ -2,10 +2,10 @@ ghost use Rattle.std.specs.Prelude.{Some};
 ghost use Rattle.slint_cli.specs.Verdicts.{Judges};
 
 use first_evaluator::{Component, resolve};
-use slint_base::{End, Fault, Rule, at_start};
 use first_lexer::lex;
-use slint_meaning::MAIN_FILE;
 use first_parser::parse_first;
+use slint_base::{End, Fault, Rule, at_start};
+use slint_meaning::MAIN_FILE;
 use std::alloc::Global;
 
 /// The most bytes of a source.
