@@ -3,14 +3,11 @@ ghost use Rattle.std.specs.Bool.{OnTrue};
 ghost use Rattle.layout_solve.specs.Items.{IsItem, IsWithinLimits};
 
 use layout_solve::{Align, Item, place, solve_box};
-use slint_base::LIM;
-use std::process::Abort;
+use slint_base::{LIM, Memory};
+use std::alloc::Global;
 
 /// An item's least, preferred and greatest size, and its weight.
-type Numbers = (i64, i64, i64, i64);
-
-/// The most items of a case.
-const MOST: usize = 8;
+pub type Numbers = (i64, i64, i64, i64);
 
 /// The item with these numbers.
 pub fn item_of(numbers: &Numbers) -> Item {
@@ -20,6 +17,15 @@ pub fn item_of(numbers: &Numbers) -> Item {
         max: numbers.2,
         weight: numbers.3,
     }
+}
+
+/// The items with these numbers.
+pub fn items_of(alloc: Global, numbers: &[Numbers]) -> Result<Vec<Item>, Memory> {
+    let mut items = Vec::new(alloc);
+    for n in numbers {
+        items.push(item_of(n))?;
+    }
+    Ok(items)
 }
 
 /// Whether a number is within the limits.
@@ -338,21 +344,16 @@ static BOXES: [(&[Numbers], i64, bool, &[i64]); 45] = [
 ];
 
 #[test]
-fn rooms_are_shared(rt: HostRuntime) {
+fn rooms_are_shared(rt: HostRuntime) -> Result<(), Memory> {
     for (numbers, room, grow, wanted) in BOXES {
-        assert!(rt; numbers.len() <= MOST);
-        let mut items = [item_of(&(0, 0, 0, 0)); MOST];
-        for (i, n) in numbers.iter().enumerate() {
-            items[i] = item_of(n);
-        }
-        let items = &items[..numbers.len()];
-        assert!(rt; are_items(items));
+        let items = items_of(rt.alloc(), numbers)?;
+        assert!(rt; are_items(&items));
         assert!(rt; is_within(&room));
-        let mut out = [0; MOST];
-        let out = &mut out[..numbers.len()];
-        solve_box(items, room, grow, out);
-        assert_eq!(rt; &*out, wanted, "{numbers:?} in {room}");
+        let mut out = vec![in rt.alloc(); 0; items.len()]?;
+        solve_box(&items, room, grow, &mut out);
+        assert_eq!(rt; out.as_slice(), wanted, "{numbers:?} in {room}");
     }
+    Ok(())
 }
 
 /// An alignment, sizes of items, the room, the spacing, and the offsets.
@@ -424,15 +425,14 @@ static PLACES: [(Align, &[i64], i64, i64, &[i64]); 40] = [
 ];
 
 #[test]
-fn items_stand_in_their_places(rt: HostRuntime) {
+fn items_stand_in_their_places(rt: HostRuntime) -> Result<(), Memory> {
     for (align, sizes, room, spacing, wanted) in PLACES {
-        assert!(rt; sizes.len() <= MOST);
         assert!(rt; are_within(sizes));
         assert!(rt; is_within(&room));
         assert!(rt; is_within(&spacing));
-        let mut out = [0; MOST];
-        let out = &mut out[..sizes.len()];
-        place(align, sizes, room, spacing, out);
-        assert_eq!(rt; &*out, wanted, "{align:?} of {sizes:?} in {room}");
+        let mut out = vec![in rt.alloc(); 0; sizes.len()]?;
+        place(align, sizes, room, spacing, &mut out);
+        assert_eq!(rt; out.as_slice(), wanted, "{align:?} of {sizes:?} in {room}");
     }
+    Ok(())
 }

@@ -2,14 +2,23 @@ ghost use Rattle.std.specs.Prelude.{◌≡◌, ℕ, ◌≤◌, length, All};
 ghost use Rattle.std.specs.Bool.{OnTrue};
 ghost use Rattle.layout_solve.specs.Tracks.{IsCell};
 
-use crate::boxes::{is_item, is_within, item_of};
-use layout_solve::{Cell, Item, grid_tracks};
+use crate::boxes::{Numbers, is_item, is_within, item_of, items_of};
+use layout_solve::{Cell, grid_tracks};
+use slint_base::Memory;
+use std::alloc::Global;
 
-/// An item's least, preferred and greatest size, and its weight.
-type Numbers = (i64, i64, i64, i64);
-
-/// The most cells or tracks of a case.
-const MOST: usize = 8;
+/// The cells with these numbers.
+fn cells_of(alloc: Global, numbers: &[(Numbers, u32, u32)]) -> Result<Vec<Cell>, Memory> {
+    let mut cells = Vec::new(alloc);
+    for (item, first, span) in numbers {
+        cells.push(Cell {
+            item: item_of(item),
+            first: *first,
+            span: *span,
+        })?;
+    }
+    Ok(cells)
+}
 
 /// Whether all cells stand among so many tracks.
 fn are_cells(cells: &[Cell], tracks: usize) -> bool
@@ -458,31 +467,20 @@ static GRIDS: [(&[(Numbers, u32, u32)], i64, &[Numbers]); 40] = [
 ];
 
 #[test]
-fn grids_have_their_tracks(rt: HostRuntime) {
+fn grids_have_their_tracks(rt: HostRuntime) -> Result<(), Memory> {
     for (numbers, spacing, wanted) in GRIDS {
-        assert!(rt; numbers.len() <= MOST);
-        assert!(rt; wanted.len() <= MOST);
-        let nothing = item_of(&(0, 0, 0, 0));
-        let mut cells = [Cell {
-            item: nothing,
-            first: 0,
-            span: 1,
-        }; MOST];
-        for (i, (item, first, span)) in numbers.iter().enumerate() {
-            cells[i] = Cell {
-                item: item_of(item),
-                first: *first,
-                span: *span,
-            };
-        }
-        let cells = &cells[..numbers.len()];
-        assert!(rt; are_cells(cells, wanted.len()));
+        let cells = cells_of(rt.alloc(), numbers)?;
+        let expected = items_of(rt.alloc(), wanted)?;
+        let mut tracks = vec![in rt.alloc(); item_of(&(0, 0, 0, 0)); wanted.len()]?;
+        assert!(rt; tracks.len() < 1000);
+        assert!(rt; are_cells(&cells, tracks.len()));
         assert!(rt; is_within(&spacing));
-        let mut tracks = [nothing; MOST];
-        let tracks = &mut tracks[..wanted.len()];
-        grid_tracks(cells, spacing, tracks);
-        for (track, numbers) in tracks.iter().zip(wanted) {
-            assert_eq!(rt; *track, item_of(numbers), "{cells:?} {spacing}");
-        }
+        grid_tracks(&cells, spacing, &mut tracks);
+        assert_eq!(rt;
+            tracks.as_slice(),
+            expected.as_slice(),
+            "{cells:?} {spacing}"
+        );
     }
+    Ok(())
 }
