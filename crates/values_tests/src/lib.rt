@@ -13,3 +13,5 @@ mod printing;
 mod texts;
 #[cfg(test)]
 mod typing;
+#[cfg(test)]
+mod values;

@@ -1,0 +1,216 @@
+-- What the parts of a text read as, by a type.
+use Rattle.std.specs.Prelude.{◌≡◌, ℕ, zero, suc, ◌+◌, pos, ◌-ℤ◌, Bool, true, false, ◌==◌, ◌&&◌, if◌then◌else◌, List, [], ◌∷◌, ◌++◌, length, map, codes, Option, Some, None, Result, Ok, Err, ⊤, is_some, option_and_then, nat_lt, slice_get, position, unwrap_or}
+use Rattle.std.specs.Option.{option_map}
+use Rattle.std.specs.Str.{bytes_eq}
+use Rattle.slint_base.specs.Numbers.{to_int, sat}
+use Rattle.slint_literals.specs.declared.numbers.Number.{Number}
+use Rattle.slint_literals.specs.declared.numbers.Number.TheVariants as number
+use Rattle.value_types.specs.declared.enums.EnumNames.{EnumNames}
+use Rattle.value_types.specs.declared.parts.Part.{Part}
+use Rattle.value_types.specs.declared.parts.Part.TheVariants as part
+use Rattle.slint_base.specs.declared.endings.End.{End}
+use Rattle.slint_base.specs.declared.endings.End.TheVariants as ends
+use Rattle.value_types.specs.declared.reading.BadValue.{BadValue}
+use Rattle.value_types.specs.declared.reading.Reading.{Reading}
+use Rattle.value_types.specs.declared.reading.ItemsRead.{ItemsRead}
+use Rattle.value_types.specs.declared.reading.FieldsRead.{FieldsRead}
+use Rattle.value_types.specs.declared.types.Ty.{Ty, out-Ty}
+use Rattle.value_types.specs.declared.types.Ty.TheOpen as form
+use Rattle.value_types.specs.declared.values.Value.{Value}
+use Rattle.value_types.specs.declared.values.Value.TheVariants as value
+use Rattle.value_types.specs.ColourNames.{color_named}
+use Rattle.value_types.specs.Conversions.{Form, converted, field_named}
+use Rattle.value_types.specs.Defaults.{default_value}
+use Rattle.value_types.specs.Parts.{AreParts}
+
+-- a written number as a value
+abbrev pub number_as : Number → Value
+number_as number.Zero = value.Int (pos 0)
+number_as (number.Int n) = value.Int n
+number_as (number.Float n) = value.Float n
+number_as (number.Percent n) = value.Percent n
+number_as (number.Length n) = value.Length n
+number_as (number.Duration n) = value.Duration n
+number_as (number.Angle n) = value.Angle n
+
+-- a written number behind a `-`
+abbrev pub negative_as : Number → Value
+negative_as number.Zero = value.Int (pos 0)
+negative_as (number.Int n) = value.Int (to_int (pos 0 -ℤ n))
+negative_as (number.Float n) = value.Float (sat (pos 0 -ℤ n))
+negative_as (number.Percent n) = value.Percent (sat (pos 0 -ℤ n))
+negative_as (number.Length n) = value.Length (sat (pos 0 -ℤ n))
+negative_as (number.Duration n) = value.Duration (sat (pos 0 -ℤ n))
+negative_as (number.Angle n) = value.Angle (sat (pos 0 -ℤ n))
+
+-- a truth value by its word
+abbrev pub truth_named : List ℕ → Option Value
+truth_named word = if bytes_eq word (codes "true") then Some (value.Bool true) else if bytes_eq word (codes "false") then Some (value.Bool false) else None
+
+-- a value of an enum by its place, which is below 2^32
+abbrev pub value_at : ℕ → ℕ → Option Value
+value_at number place = if nat_lt place 4294967296 then Some (value.Enum number place) else None
+
+-- a value of an enum by its name
+abbrev pub value_named : ℕ → List ℕ → Option EnumNames → Option Value
+value_named number word None = None
+value_named number word (Some names) = option_and_then (value_at number) (position (λ name. bytes_eq name word) names.values)
+
+-- what a word reads as: a truth value, a colour or a value of an enum, by the type
+abbrev pub word_in : List EnumNames → List ℕ → Form → Option Value
+word_in enums word form.Bool = truth_named word
+word_in enums word form.Color = option_map value.Color (color_named word)
+word_in enums word (form.Enum number) = value_named number word (slice_get enums number)
+word_in enums word _ = None
+
+-- what `E.v` reads as: a value of the enum of that name
+abbrev pub named_in : List ℕ → List ℕ → ℕ → Option EnumNames → Option Value
+named_in first second number None = None
+named_in first second number (Some names) = if bytes_eq names.name first then value_named number second (Some names) else None
+
+abbrev pub pair_in : List EnumNames → List ℕ → List ℕ → Form → Option Value
+pair_in enums first second (form.Enum number) = named_in first second number (slice_get enums number)
+pair_in enums first second _ = None
+
+-- a value that is read, and the place behind it
+abbrev pub beside : ℕ → Option Value → Option Reading
+beside next None = None
+beside next (Some v) = Some (record { value = v; next = next })
+
+-- the part is this mark, or this word
+abbrev pub is_mark_of : ℕ → Option Part → Bool
+is_mark_of mark (Some (part.Mark m)) = m == mark
+is_mark_of mark _ = false
+
+abbrev pub is_mark_at : List Part → ℕ → ℕ → Bool
+is_mark_at parts at mark = is_mark_of mark (slice_get parts at)
+
+abbrev pub is_word_of : List ℕ → Option Part → Bool
+is_word_of word (Some (part.Word w)) = bytes_eq w word
+is_word_of word _ = false
+
+-- a number behind a `-`
+abbrev pub negative_read : Ty → ℕ → Option Part → Option Reading
+negative_read ty at (Some (part.Number n)) = beside (at + 2) (converted (negative_as n) ty)
+negative_read ty at _ = None
+
+-- an image: `@`, the word `image-url`, and a string in parentheses
+abbrev pub path_read : Ty → ℕ → Option Part → Option Reading
+path_read ty at (Some (part.Str path)) = beside (at + 5) (converted (value.Image path) ty)
+path_read ty at _ = None
+
+abbrev pub image_read : Ty → List Part → ℕ → Option Reading
+image_read ty parts at = if is_word_of (codes "image-url") (slice_get parts (at + 1)) && (is_mark_at parts (at + 2) 40 && is_mark_at parts (at + 4) 41)
+    then path_read ty at (slice_get parts (at + 3)) else None
+
+-- a mark with what is behind it
+abbrev pub mark_read : Ty → List Part → ℕ → ℕ → Option Reading
+mark_read ty parts at mark = if mark == 45 then negative_read ty at (slice_get parts (at + 1)) else if mark == 64 then image_read ty parts at else None
+
+-- a word alone, or two with a point between them
+abbrev pub second_read : List EnumNames → Ty → ℕ → List ℕ → Option Part → Option Reading
+second_read enums ty at word (Some (part.Word second)) = beside (at + 3) (pair_in enums word second (out-Ty ty))
+second_read enums ty at word _ = None
+
+abbrev pub word_read : List EnumNames → Ty → List Part → ℕ → List ℕ → Option Reading
+word_read enums ty parts at word = if is_mark_at parts (at + 1) 46 then second_read enums ty at word (slice_get parts (at + 2)) else beside (at + 1) (word_in enums word (out-Ty ty))
+
+-- a value that is neither an array nor a struct
+abbrev pub plain_by : List EnumNames → Ty → List Part → ℕ → Option Part → Option Reading
+plain_by enums ty parts at None = None
+plain_by enums ty parts at (Some (part.Number n)) = beside (at + 1) (converted (number_as n) ty)
+plain_by enums ty parts at (Some (part.Color c)) = beside (at + 1) (converted (value.Color c) ty)
+plain_by enums ty parts at (Some (part.Str t)) = beside (at + 1) (converted (value.Str t) ty)
+plain_by enums ty parts at (Some (part.Word w)) = word_read enums ty parts at w
+plain_by enums ty parts at (Some (part.Mark m)) = mark_read ty parts at m
+
+abbrev pub plain_read : List EnumNames → Ty → List Part → ℕ → Option Reading
+plain_read enums ty parts at = plain_by enums ty parts at (slice_get parts at)
+
+-- behind an item stands the end, or a comma and more items
+abbrev pub item_then : (List Value → ℕ → Option ItemsRead) → List Part → List Value → Option Reading → Option ItemsRead
+item_then more parts before None = None
+item_then more parts before (Some found) = if is_mark_at parts found.next 93 then Some (record { values = before ++ found.value ∷ []; next = found.next + 1 })
+    else if is_mark_at parts found.next 44 then more (before ++ found.value ∷ []) (found.next + 1) else None
+
+-- the items from a place on up to `]`, behind those before: values with commas between them, and one more where it may stand. As many
+-- items as parts may be read.
+unfoldable pub items_read : (ℕ → Option Reading) → List Part → ℕ → List Value → ℕ → Option ItemsRead
+items_read read parts zero before at = None
+items_read read parts (suc left) before at = if is_mark_at parts at 93 then Some (record { values = before; next = at + 1 }) else item_then (λ values next. items_read read parts left values next) parts before (read at)
+
+-- behind a field stands the end, or a comma and more fields
+abbrev pub field_then : (List (List ℕ × Value) → ℕ → Option FieldsRead) → List Part → List (List ℕ × Value) → List ℕ → Option Reading → Option FieldsRead
+field_then more parts before name None = None
+field_then more parts before name (Some found) = if is_mark_at parts found.next 125 then Some (record { fields = before ++ (name, found.value) ∷ []; next = found.next + 1 })
+    else if is_mark_at parts found.next 44 then more (before ++ (name, found.value) ∷ []) (found.next + 1) else None
+
+-- a field: its name, which stands among those of the type and not before, `:` and a value of its type
+abbrev pub field_read : (Ty → ℕ → Option Reading) → List (List ℕ × Ty) → List Part → List (List ℕ × Value) → ℕ → List ℕ → Option Reading
+field_read read fields parts before at name = if is_some (field_named name before) then None else if is_mark_at parts (at + 1) 58 then option_and_then (λ ty. read ty (at + 2)) (field_named name fields) else None
+
+-- the word that a part is
+abbrev pub word_of : Option Part → Option (List ℕ)
+word_of (Some (part.Word word)) = Some word
+word_of _ = None
+
+abbrev pub name_read : (List (List ℕ × Value) → ℕ → Option FieldsRead) → (Ty → ℕ → Option Reading) → List (List ℕ × Ty) → List Part → List (List ℕ × Value) → ℕ → Option (List ℕ) → Option FieldsRead
+name_read more read fields parts before at None = None
+name_read more read fields parts before at (Some name) = field_then more parts before name (field_read read fields parts before at name)
+
+-- the fields from a place on up to `}`, behind those before, in the order in which they are written
+unfoldable pub fields_read : (Ty → ℕ → Option Reading) → List (List ℕ × Ty) → List Part → ℕ → List (List ℕ × Value) → ℕ → Option FieldsRead
+fields_read read fields parts zero before at = None
+fields_read read fields parts (suc left) before at = if is_mark_at parts at 125 then Some (record { fields = before; next = at + 1 })
+    else name_read (λ found next. fields_read read fields parts left found next) read fields parts before at (word_of (slice_get parts at))
+
+-- the fields of a type: those that were read, and defaults for the others
+abbrev pub filled_field : List (List ℕ × Value) → List ℕ × Ty → List ℕ × Value
+filled_field found field = (field.0, unwrap_or (field_named field.0 found) (default_value field.1))
+
+abbrev pub filled : List (List ℕ × Ty) → List (List ℕ × Value) → List (List ℕ × Value)
+filled fields found = map (filled_field found) fields
+
+-- an array and a struct, and the place behind them
+abbrev pub array_of : Option ItemsRead → Option Reading
+array_of None = None
+array_of (Some found) = Some (record { value = value.Array found.values; next = found.next })
+
+abbrev pub struct_of : List (List ℕ × Ty) → Option FieldsRead → Option Reading
+struct_of fields None = None
+struct_of fields (Some found) = Some (record { value = value.Struct (filled fields found.fields); next = found.next })
+
+abbrev pub array_read : (ℕ → Option Reading) → List Part → ℕ → Option Reading
+array_read read parts at = if is_mark_at parts at 91 then array_of (items_read read parts (suc (length parts)) [] (at + 1)) else None
+
+abbrev pub struct_read : (Ty → ℕ → Option Reading) → List (List ℕ × Ty) → List Part → ℕ → Option Reading
+struct_read read fields parts at = if is_mark_at parts at 123 then struct_of fields (fields_read read fields parts (suc (length parts)) [] (at + 1)) else None
+
+-- a value of a type, opened, by how those of its parts are read
+abbrev pub read_form : List EnumNames → (Ty → ℕ → Option Reading) → Ty → List Part → ℕ → Form → Option Reading
+read_form enums read ty parts at (form.Array item) = array_read (read item) parts at
+read_form enums read ty parts at (form.Struct fields) = struct_read read fields parts at
+read_form enums read ty parts at _ = plain_read enums ty parts at
+
+-- the value of a type that stands at a place, to so many levels of arrays and structs
+unfoldable pub read_to : List EnumNames → List Part → ℕ → Ty → ℕ → Option Reading
+read_to enums parts zero ty at = None
+read_to enums parts (suc depth) ty at = read_form enums (read_to enums parts depth) ty parts at (out-Ty ty)
+
+-- the value that parts are, with none left. No array or struct has more levels than its text has parts.
+abbrev pub whole_of : List Part → Option Reading → Option Value
+whole_of parts None = None
+whole_of parts (Some found) = if found.next == length parts then Some found.value else None
+
+abbrev pub value_of_parts : List EnumNames → Ty → List Part → Option Value
+value_of_parts enums ty parts = whole_of parts (read_to enums parts (length parts + 1) ty 0)
+
+-- a text is a written form of a value of a type
+abbrev pub Reads : List EnumNames → Ty → List ℕ → Value → Type 0
+Reads enums ty text v = (parts : List Part) × AreParts text parts × (value_of_parts enums ty parts ≡ Some v)
+
+-- the value of which a text is a written form, or that it is none, unless memory ran out
+abbrev pub ReadsAs : List EnumNames → Ty → List ℕ → Result Value (End BadValue) → Type 0
+ReadsAs enums ty text (Ok v) = Reads enums ty text v × ((other : Value) → Reads enums ty text other → other ≡ v)
+ReadsAs enums ty text (Err (ends.Fault why)) = (v : Value) → Reads enums ty text v → ⊥
+ReadsAs enums ty text (Err ends.Memory) = ⊤
