@@ -15,3 +15,11 @@ pub mod GoesOn
 pub mod Predicted
 pub mod Table
 pub mod OneTree
+pub mod Spelled
+pub mod HeldKinds
+pub mod SpelledForms
+pub mod BareMade
+pub mod Edited
+pub mod Fronts
+pub mod Again
+pub mod PrintedReads

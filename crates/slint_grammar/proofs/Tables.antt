@@ -27,7 +27,7 @@ abbrev pub all_nullable : List Slot → Bool
 all_nullable [] = true
 all_nullable (x ∷ xs) = nullable_slot x && all_nullable xs
 
-item_takes_a_token : (l : Listed) → nullable_slot (item l) ≡ false
+pub item_takes_a_token : (l : Listed) → nullable_slot (item l) ≡ false
 item_takes_a_token Aliases = refl
 item_takes_a_token _ = refl
 

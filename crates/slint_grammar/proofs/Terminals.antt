@@ -25,10 +25,10 @@ pub not_both : (b : Bool) → IsTrue (not b) → IsTrue b → ⊥
 not_both true h k = no h
 not_both false h k = no k
 
-is_same : (m n : ℕ) → IsTrue (m == n) → m ≡ n
+pub is_same : (m n : ℕ) → IsTrue (m == n) → m ≡ n
 is_same m n = (unsigned_Decides m n).0
 
-same_is : (m n : ℕ) → m ≡ n → IsTrue (m == n)
+pub same_is : (m n : ℕ) → m ≡ n → IsTrue (m == n)
 same_is m n = (unsigned_Decides m n).1
 
 -- a token that is this symbol is not that terminal

@@ -4,5 +4,5 @@
 mod laws;
 mod words;
 
-pub use laws::{one_fault, one_tree, tree_or_fault};
+pub use laws::{one_fault, one_tree, printed_again, printed_reads, tree_or_fault};
 pub use words::{Word, word_of};

@@ -1,4 +1,5 @@
 pub mod CommentTexts
+pub mod FaultRules
 pub mod Fronts
 pub mod NameTexts
 pub mod OneAnswer
@@ -6,6 +7,8 @@ pub mod Same
 pub mod Readings
 pub mod ReadyTokens
 pub mod Spellings
+pub mod SomeAnswer
+pub mod SomeFront
 pub mod SymbolTexts
 pub mod TopSymbols
 pub mod WrittenTokens

@@ -136,3 +136,11 @@ pub record HasFault (file : ℕ) (bytes : List ℕ) (fault : Fault) : Type 0 whe
 abbrev pub EndsLexing : ℕ → List ℕ → End Fault → Type 0
 EndsLexing file bytes (ends.Fault fault) = HasFault file bytes fault
 EndsLexing file bytes ends.Memory = ⊤
+
+-- the rules that the tokens of a file can break
+abbrev pub is_token_rule : Rule → Bool
+is_token_rule rules.NotUtf8 = true
+is_token_rule rules.BadToken = true
+is_token_rule rules.BadNumber = true
+is_token_rule rules.BadEscape = true
+is_token_rule _ = false

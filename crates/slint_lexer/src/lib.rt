@@ -12,7 +12,7 @@ mod symbols;
 mod tokens;
 mod writing;
 
-pub use laws::{lexed_fit, one_answer, written_again};
+pub use laws::{lexed_fit, one_answer, token_rules, tokens_or_fault, written_again};
 pub use lexing::lex;
 pub use marks::Mark;
 pub use tokens::{Symbol, Token, TokenKind};

@@ -1,1 +1,4 @@
+pub mod Bare
+pub mod Printed
 pub mod Spans
+pub mod Writes

@@ -1,0 +1,5 @@
+pub mod BareForms
+pub mod InOrder
+pub mod PrintedForms
+pub mod PrintedUtf8
+pub mod WrittenUtf8
