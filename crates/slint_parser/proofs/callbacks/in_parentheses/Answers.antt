@@ -1,0 +1,15 @@
+use Rattle.slint_grammar.specs.Grammar.{Alt as alts}
+use Rattle.slint_parser.proofs.Joining.{alt_error, took_by, end_all, and_one, and_same, at_one, at_same, past_one}
+use Rattle.slint_parser.proofs.callbacks.in_parentheses.Goals as goal
+
+pub returns-in_err-symbol : goal.returns-in_err-symbol
+returns-in_err-symbol c =
+    alt_error alts.parameters c.args.depth c.args.cursor.now c.symbol.new.self _ c.from_residual.result c.from_residual.ensures.1 (at_one c.in_err-symbol.ensures)
+
+pub returns-in_err-all : goal.returns-in_err-all
+returns-in_err-all c =
+    alt_error alts.parameters c.args.depth c.args.cursor.now c.parameters.new.cursor _ c.from_residual-in_err-all.result c.from_residual-in_err-all.ensures.1 (past_one c.in_ok-symbol.ensures (at_same c.in_err-all.ensures))
+
+pub returns : goal.returns
+returns c =
+    took_by alts.parameters (and_one c.in_ok-symbol.ensures (and_same c.in_ok-all.ensures (end_all c.args.depth c.parameters.new.cursor)))

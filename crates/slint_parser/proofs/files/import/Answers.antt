@@ -1,0 +1,18 @@
+use Rattle.slint_grammar.specs.Grammar.{Alt as alts}
+use Rattle.slint_parser.proofs.Joining.{alt_error, took_by, end_all, and_one, and_same, at_one, at_same, past_one, past_same}
+use Rattle.slint_parser.proofs.files.import.Goals as goal
+
+pub returns-in_err-word : goal.returns-in_err-word
+returns-in_err-word c = alt_error alts.import_item 0 c.args.cursor.now c.word.new.self _ c.from_residual.result c.from_residual.ensures.1 (at_one c.in_err-word.ensures)
+
+pub returns-in_err-names : goal.returns-in_err-names
+returns-in_err-names c = alt_error alts.import_item 0 c.args.cursor.now c.import_names.new.cursor _ c.from_residual-in_err-names.result c.from_residual-in_err-names.ensures.1 (past_one c.in_ok-word.ensures (at_same c.in_err-names.ensures))
+
+pub returns-in_err-path : goal.returns-in_err-path
+returns-in_err-path c = alt_error alts.import_item 0 c.args.cursor.now c.text.new.self _ c.from_residual-in_err-path.result c.from_residual-in_err-path.ensures.1 (past_one c.in_ok-word.ensures (past_same c.in_ok-names.ensures (at_one c.in_err-path.ensures)))
+
+pub returns-in_err-symbol : goal.returns-in_err-symbol
+returns-in_err-symbol c = alt_error alts.import_item 0 c.args.cursor.now c.symbol.new.self _ c.from_residual-in_err-symbol.result c.from_residual-in_err-symbol.ensures.1 (past_one c.in_ok-word.ensures (past_same c.in_ok-names.ensures (past_one c.in_ok-path.ensures (at_one c.in_err-symbol.ensures))))
+
+pub returns : goal.returns
+returns c = took_by alts.import_item (and_one c.in_ok-word.ensures (and_same c.in_ok-names.ensures (and_one c.in_ok-path.ensures (and_one c.in_ok-symbol.ensures (end_all 0 c.symbol.new.self)))))

@@ -1,0 +1,13 @@
+use Rattle.slint_grammar.specs.Grammar.{Alt as alts}
+use Rattle.slint_parser.proofs.Joining.{took_by, end_all, chosen_reads, chosen_took}
+use Rattle.slint_parser.proofs.Among.{unlike}
+use Rattle.slint_parser.proofs.ChosenMembers as chosen
+use Rattle.slint_parser.proofs.handlers.may_names.Goals as goal
+
+pub returns-then-sees : goal.returns-then-sees
+returns-then-sees c =
+    chosen_reads alts.names c.args.depth c.args.cursor.now c.in_parentheses.new.cursor c.in_parentheses.result (chosen.chosen_names c.args.depth c.args.cursor.now (c.sees.ensures.0 c.if-sees.true)) c.in_parentheses.ensures
+
+pub returns : goal.returns
+returns c =
+    chosen_took (chosen.chosen_no_names c.args.depth c.args.cursor.now (unlike c.sees.result c.if-sees.false c.sees.ensures.1)) (took_by alts.no_names (end_all c.args.depth c.args.cursor.now))
