@@ -1,30 +1,25 @@
 //! The values of the language and their types.
 #![tactic(auto)]
 
-mod color_names;
 mod common_types;
 mod converting;
 mod decimals;
 mod defaults;
 mod enums;
 mod facets;
-mod parts;
 mod printing;
-mod reading;
 mod sameness;
 mod scalar_types;
 mod scalars;
 mod types;
 mod values;
 
-pub use color_names::color_named;
 pub use common_types::common_type;
 pub use converting::convert;
 pub use defaults::default_of;
 pub use enums::{EnumNames, Enums};
 pub use facets::Facet;
 pub use printing::print_value;
-pub use reading::{BadValue, read_value};
 pub use sameness::same;
 pub use types::{Fields, Ty};
 pub use values::{FieldValues, KeyList, PlaceList, RowPlace, Value, Values};

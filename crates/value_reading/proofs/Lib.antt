@@ -1,0 +1,11 @@
+pub mod PartLemmas
+pub mod ReadingLemmas
+pub mod Scalars
+pub mod GrammarReads
+pub mod PrintedColours
+pub mod PrintedNumbers
+pub mod PrintedParts
+pub mod PrintedForms
+pub mod PrintedLists
+pub mod GrammarSound
+pub mod WholeTexts
