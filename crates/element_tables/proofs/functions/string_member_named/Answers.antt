@@ -1,0 +1,8 @@
+use Rattle.std.proofs.Common.{◌∙◌}
+use Rattle.element_tables.specs.Functions.{string_members}
+use Rattle.element_tables.proofs.Named.{named-sorted}
+use Rattle.element_tables.proofs.functions.string_member_named.Goals as goal
+
+-- the table in code is the definition's in byte order
+pub returns : goal.returns
+returns c = c.find.ensures ∙ named-sorted c.args.name.now string_members
