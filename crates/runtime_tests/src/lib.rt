@@ -8,4 +8,6 @@ mod grids;
 #[cfg(test)]
 mod pairs;
 #[cfg(test)]
+mod rows;
+#[cfg(test)]
 mod texts;

@@ -11,7 +11,7 @@ use Rattle.text_measure.specs.Measures.{begun, parts, char_width, width_of, text
 use Rattle.text_measure.proofs.Pens.{cap, pen_width, pen_rows, line_left, pending, pending_same, breaks_same, SeesRoom, parts-separator, parts-other, width-line, width-other, width-first, width-last}
 
 -- there is always a first part
-parts-cons : (s : ℕ) (cs : List ℕ) → (q : List ℕ) × (qs : List (List ℕ)) × (parts s cs ≡ q ∷ qs)
+pub parts-cons : (s : ℕ) (cs : List ℕ) → (q : List ℕ) × (qs : List (List ℕ)) × (parts s cs ≡ q ∷ qs)
 parts-cons s [] = ([], [], refl)
 parts-cons s (c ∷ cs) = split (eqb c s)
   where

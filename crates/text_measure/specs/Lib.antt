@@ -1,2 +1,4 @@
+pub mod Grammar
 pub mod Measures
+pub mod Reading
 pub mod Tables

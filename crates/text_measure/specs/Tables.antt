@@ -1,5 +1,5 @@
 -- Tables of characters' widths.
-use Rattle.std.specs.Prelude.{◌<◌, ℕ, List, [], ◌∷◌, length, slice_index, if◌then◌else◌, ◌==◌}
+use Rattle.std.specs.Prelude.{◌<◌, ℕ, ◌+◌, List, [], ◌∷◌, length, slice_index, if◌then◌else◌, ◌==◌}
 
 -- how high a line is, how wide a character is that isn't listed, and the characters that are, with their widths: all in thousandths of the font size
 pub record Table : Type 0 where
@@ -25,3 +25,8 @@ IsRising characters = (i j : ℕ) → i < j → j < length characters → slice_
 abbrev pub advance_in : List (ℕ × ℕ) → ℕ → ℕ → ℕ
 advance_in [] default ch = default
 advance_in (pair ∷ pairs) default ch = if pair.0 == ch then pair.1 else advance_in pairs default ch
+
+-- the least character that may follow pairs: one more than the last, or this one
+abbrev pub least_from : ℕ → List (ℕ × ℕ) → ℕ
+least_from least [] = least
+least_from least (pair ∷ pairs) = least_from (pair.0 + 1) pairs

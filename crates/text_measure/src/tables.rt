@@ -1,6 +1,7 @@
-ghost use Rattle.std.specs.Prelude.{◌≡◌, [], length};
-ghost use Rattle.text_measure.specs.Tables.{Table, IsRising, pairs_of, plain_table, advance_in};
+ghost use Rattle.std.specs.Prelude.{◌≡◌, ◌≤◌, [], ◌∷◌, ◌++◌, length, nat_le, OnOk, OnErr};
+ghost use Rattle.text_measure.specs.Tables.{Table, IsRising, pairs_of, plain_table, advance_in, least_from};
 
+use slint_base::Memory;
 use std::alloc::Global;
 use std::marker::Model;
 
@@ -48,6 +49,42 @@ impl TextTable {
             characters: Vec::new(alloc),
             widths: Vec::new(alloc),
         }
+    }
+
+    /// A table without characters.
+    pub(crate) fn new(alloc: Global, line: u32, default: u32) -> TextTable
+        ensures { result ≡ record { line = line; default = default; pairs = [] } }
+    {
+        TextTable {
+            line,
+            default,
+            characters: Vec::new(alloc),
+            widths: Vec::new(alloc),
+        }
+    }
+
+    /// Whether a character is above all that are listed.
+    pub(crate) fn is_above_all(&self, ch: char) -> bool
+        ensures { result ≡ nat_le (least_from 0 self.now.pairs) ch }
+    {
+        match self.characters.last() {
+            None => true,
+            Some(last) => *last < ch,
+        }
+    }
+
+    /// Lists a character that is above all others.
+    pub(crate) fn push(&mut self, ch: char, width: u32) -> Result<(), Memory>
+        requires { least_from 0 self.old.pairs ≤ ch }
+        ensures ok { OnOk result (self.new ≡ record self.old { pairs = self.old.pairs ++ (ch, width) ∷ [] }) }
+        ensures err { OnErr result (self.new ≡ self.old) }
+    {
+        self.characters.push(ch)?;
+        if self.widths.push(width).is_err() {
+            let _ = self.characters.pop();
+            return Err(Memory);
+        }
+        Ok(())
     }
 
     /// The height of a line.
