@@ -1,0 +1,4 @@
+//! Tests of cells.
+#![tactic(auto)]
+
+mod cells;

@@ -1,0 +1,13 @@
+pub mod Assigning
+pub mod Blocks
+pub mod Changed
+pub mod Changes
+pub mod Codes
+pub mod Hits
+pub mod Marks
+pub mod Net
+pub mod Points
+pub mod Reach
+pub mod Removing
+pub mod Runs
+pub mod Store
