@@ -8,14 +8,14 @@ use Rattle.std.proofs.lemmas.List.{length-map, get_or-take, get_or-set_same, get
 use Rattle.std.proofs.lemmas.List.Elements.{All-nil, All-cons}
 use Rattle.std.proofs.lemmas.Option.{get_or_from_slice_get, slice_get_within}
 use mathlib.Core.List.{reverse_aux}
-use Rattle.slint_base.specs.Numbers.{greatest_int, to_int}
-use Rattle.first_parser.specs.declared.trees.Factor.{Factor}
-use Rattle.first_parser.specs.declared.trees.Factor.TheVariants.{Lit, Named}
-use Rattle.first_parser.specs.declared.trees.FirstProp.{FirstProp}
-use Rattle.first_parser.specs.declared.trees.FirstFile.{FirstFile}
+use Rattle.slint_base.specs.Numbers.{to_int}
+use Rattle.first_evaluator.specs.declared.trees.Factor.{Factor}
+use Rattle.first_evaluator.specs.declared.trees.Factor.TheVariants.{Lit, Named}
+use Rattle.first_evaluator.specs.declared.trees.FirstProp.{FirstProp}
+use Rattle.first_evaluator.specs.declared.trees.FirstFile.{FirstFile}
 use Rattle.slint_base.specs.Options.{onto_all, all_of}
-use Rattle.slint_meaning.specs.Sources.{are_bound, has_name, is_sum_bound, names_of, reserved_words}
-use Rattle.slint_meaning.specs.Values.{World, opening_world, assign, assignment, factor_value, product_value, sum_value, assigned_or, value_among, property_value}
+use Rattle.first_evaluator.specs.Bindings.{are_bound, has_name, is_sum_bound, names_of, reserved_words}
+use Rattle.first_evaluator.specs.Values.{World, opening_world, assign, assignment, factor_value, product_value, sum_value, assigned_or, value_among, property_value}
 use Rattle.first_evaluator.specs.declared.resolving.Operand.{Operand}
 use Rattle.first_evaluator.specs.declared.resolving.Operand.TheVariants.{Literal, Property}
 use Rattle.first_evaluator.specs.Resolved.{place_among, operand_of, product_of, sum_of, sums_behind, sums_of}
@@ -50,9 +50,8 @@ module _ {A B : Type 0} (f : A → Option B) where
       ap (fold g c) made.4 ∙ fold-all_of g h same xs made.1 made.3 (g c made.0) ∙ ap (λ d. fold h d xs) (same x made.0 made.2 c)
 
 -- what a factor becomes
-number_made : (b : Bool) (n : ℕ) (operand : Operand) → cond b (Some (Literal (pos n))) None ≡ Some operand → operand ≡ Literal (pos n)
-number_made true n operand e = cc
-number_made false n operand e = cc
+number_made : (n : ℤ) (operand : Operand) → Some (Literal n) ≡ Some operand → operand ≡ Literal n
+number_made n operand e = cc
 
 name_made : (b : Bool) (o : Option ℕ) (operand : Operand) → cond b None (option_map (λ p. Property p) o) ≡ Some operand → (place : ℕ) × (o ≡ Some place) × (operand ≡ Property place)
 name_made true o operand e = cc
@@ -61,8 +60,8 @@ name_made false (Some place) operand e = (place, refl, cc)
 
 -- operands of a sum are among the properties before
 operand_within : (before : List (List ℕ)) (factor : Factor) (operand : Operand) → operand_of (place_among before) factor ≡ Some operand → IsWithin (length before) operand
-operand_within before (Lit n span) operand e = subst (IsWithin (length before)) (sym (number_made (nat_le n greatest_int) n operand e)) tt
-operand_within before (Named name span) operand e =
+operand_within before (Lit n) operand e = subst (IsWithin (length before)) (sym (number_made n operand e)) tt
+operand_within before (Named name) operand e =
     let made = name_made (has_name reserved_words name) (place_among before name) operand e in
     subst (IsWithin (length before)) (sym made.2) (place_among_within before name made.0 made.1)
 
@@ -201,8 +200,8 @@ module _ (world : World) where
     module _ (before : List FirstProp) (knows : Knows before) where
       factor_same : (factor : Factor) (operand : Operand) → operand_of (place_among (names_of before)) factor ≡ Some operand
           → operand_value (take (length before) values) operand ≡ factor_value (λ name. value_among before world name) factor
-      factor_same (Lit n span) operand e = ap (operand_value (take (length before) values)) (number_made (nat_le n greatest_int) n operand e)
-      factor_same (Named name span) operand e =
+      factor_same (Lit n) operand e = ap (operand_value (take (length before) values)) (number_made n operand e)
+      factor_same (Named name) operand e =
           let made = name_made (has_name reserved_words name) (place_among (names_of before) name) operand e in
           let l = place_among_within (names_of before) name made.0 made.1 in
           let n = length-map before (λ prop. prop.name) in

@@ -11,34 +11,19 @@ use Rattle.std.proofs.lemmas.List.{drop_more, drop_all, take_more, take_all, app
 use Rattle.std.proofs.lemmas.List.Sorted.{IsPermutation-reverse, list_any-IsPermutation}
 use Rattle.std.proofs.lemmas.Option.{slice_get-get_or, slice_get_within, get_or_from_slice_get}
 use mathlib.Core.List.{reverse, reverse-cons}
-use Rattle.slint_base.specs.declared.faults.Fault.{Fault}
-use Rattle.slint_base.specs.declared.rules.Rule.TheVariants.{NotBuilt}
-use Rattle.slint_base.specs.Numbers.{greatest_int}
-use Rattle.slint_base.specs.Refusals.{at_start}
-use Rattle.slint_meaning.specs.Runs.{main_file}
-use Rattle.first_parser.specs.declared.trees.Factor.{Factor}
-use Rattle.first_parser.specs.declared.trees.Factor.TheVariants.{Lit, Named}
-use Rattle.first_parser.specs.declared.trees.FirstProp.{FirstProp}
-use Rattle.first_parser.specs.declared.trees.FirstFile.{FirstFile}
+use Rattle.first_evaluator.specs.declared.trees.Factor.{Factor}
+use Rattle.first_evaluator.specs.declared.trees.Factor.TheVariants.{Lit, Named}
+use Rattle.first_evaluator.specs.declared.trees.FirstProp.{FirstProp}
+use Rattle.first_evaluator.specs.declared.trees.FirstFile.{FirstFile}
 use Rattle.slint_base.specs.Options.{onto_all, all_of}
-use Rattle.slint_meaning.specs.Sources.{are_bound, has_name, is_factor_bound, is_sum_bound, names_of, reserved_words}
+use Rattle.first_evaluator.specs.Bindings.{are_bound, has_name, is_factor_bound, is_sum_bound, names_of, reserved_words}
 use Rattle.first_evaluator.specs.declared.resolving.Operand.{Operand}
 use Rattle.first_evaluator.specs.declared.resolving.Operand.TheVariants.{Literal, Property}
-use Rattle.first_evaluator.specs.Resolved.{place_among, operand_of, product_of, sum_of, sums_behind, sums_of, names_before, resolution, AreAt}
+use Rattle.first_evaluator.specs.Resolved.{place_among, operand_of, product_of, sum_of, sums_behind, sums_of, names_before, AreAt}
+use Rattle.first_evaluator.specs.First.{bound_file}
+use Rattle.first_evaluator.proofs.AllOf.{behind_all, behind_all-onto_all}
 
 module _ {B : Type 0} where
-  -- what is made of all, given what was made of those before
-  abbrev pub behind_all : List B → Option (List B) → Option (List B)
-  behind_all done rest = option_map (λ others. done ++ others) rest
-
-  pub behind_all-nil : (o : Option (List B)) → o ≡ behind_all [] o
-  behind_all-nil None = refl
-  behind_all-nil (Some xs) = refl
-
-  pub behind_all-onto_all : (done : List B) (y : B) (o : Option (List B)) → behind_all done (onto_all (Some y) o) ≡ behind_all (done ++ y ∷ []) o
-  behind_all-onto_all done y None = refl
-  behind_all-onto_all done y (Some ys) = ap (λ zs. Some zs) (sym (append_assoc done (y ∷ []) ys))
-
   is_some-onto_all : (o : Option B) (p : Option (List B)) → is_some (onto_all o p) ≡ (is_some o && is_some p)
   is_some-onto_all None p = refl
   is_some-onto_all (Some x) None = refl
@@ -73,10 +58,6 @@ place_among_within (other ∷ before) name place e = by (bytes_eq other name) (p
     by false within found = let p : place < length before = within found in omega arith
 
 module _ (before : List (List ℕ)) where
-  is_some-number : (b : Bool) (operand : Operand) → is_some (cond b (Some operand) None) ≡ b
-  is_some-number true operand = refl
-  is_some-number false operand = refl
-
   is_some-named : (reserved known : Bool) (place : Option ℕ) → is_some place ≡ known → is_some (cond reserved None (option_map (λ p. Property p) place)) ≡ (known && not reserved)
   is_some-named true true place e = refl
   is_some-named true false place e = refl
@@ -86,8 +67,8 @@ module _ (before : List (List ℕ)) where
   is_some-named false false (Some p) e = e
 
   is_some-operand_of : (factor : Factor) → is_some (operand_of (place_among before) factor) ≡ is_factor_bound before factor
-  is_some-operand_of (Lit n span) = is_some-number (nat_le n greatest_int) (Literal (pos n))
-  is_some-operand_of (Named name span) = is_some-named (has_name reserved_words name) (has_name before name) (place_among before name) (is_some-place_among before name)
+  is_some-operand_of (Lit n) = refl
+  is_some-operand_of (Named name) = is_some-named (has_name reserved_words name) (has_name before name) (place_among before name) (is_some-place_among before name)
 
   is_some-sum_of : (terms : List (List Factor)) → is_some (sum_of (place_among before) terms) ≡ is_sum_bound before terms
   is_some-sum_of terms = is_some-all_of (product_of (place_among before)) (list_all (is_factor_bound before)) (is_some-all_of (operand_of (place_among before)) (is_factor_bound before) is_some-operand_of) terms
@@ -242,13 +223,10 @@ module _ {Y : Type 0} (props : List FirstProp) (done : List (List (List Operand)
 pub sums-end : (props : List FirstProp) (done : List (List (List Operand))) (i : ℕ) → sums_behind [] props ≡ behind_all done (sums_behind (names_before props i) (drop i props)) → length props ≤ i → sums_behind [] props ≡ Some done
 sums-end props done i so_far end = so_far ∙ ap (λ rest. behind_all done (sums_behind (names_before props i) rest)) (drop_all i props end) ∙ ap (λ sums. Some sums) (append-nil done)
 
--- where the bindings are unsound the tree is refused
-pub resolution-refused : (file : FirstFile) (fault : Fault) → fault ≡ at_start NotBuilt main_file → are_bound [] file.props ≡ false → resolution file ≡ Err fault
-resolution-refused file fault is unbound =
-    let pick : Bool → Result FirstFile Fault = λ b. cond b (Ok file) (Err (at_start NotBuilt main_file)) in
-    let refuse : Fault → Result FirstFile Fault = λ f. Err f in
-    ap pick unbound ∙ ap refuse (sym is)
+-- a tree whose bindings are unsound is none of the first language
+pub bound_file-unsound : (file : FirstFile) → are_bound [] file.props ≡ false → None ≡ bound_file file
+bound_file-unsound file unbound = ap (λ b. cond b (Some file) None) (sym unbound)
 
--- and where they are sound it is not
-pub resolution-sound : (file : FirstFile) → IsTrue (are_bound [] file.props) → resolution file ≡ Ok file
-resolution-sound file bound = let pick : Bool → Result FirstFile Fault = λ b. cond b (Ok file) (Err (at_start NotBuilt main_file)) in ap pick bound
+-- and where they are sound it is
+pub bound_file-sound : (file : FirstFile) → IsTrue (are_bound [] file.props) → Some file ≡ bound_file file
+bound_file-sound file bound = ap (λ b. cond b (Some file) None) (sym bound)

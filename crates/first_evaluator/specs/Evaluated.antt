@@ -1,9 +1,9 @@
 -- What the plain evaluator computes over resolved sums, and what it keeps between calls.
 use Rattle.std.specs.Prelude.{◌≡◌, ℕ, ◌<◌, ◌≤◌, ℤ, pos, ◌+ℤ◌, ◌*ℤ◌, List, [], length, take, fold, IsTrue, Option, None, slice_index_or}
 use Rattle.slint_base.specs.Numbers.{to_int}
-use Rattle.first_parser.specs.declared.trees.FirstFile.{FirstFile}
-use Rattle.slint_meaning.specs.Sources.{are_bound}
-use Rattle.slint_meaning.specs.Values.{assigned_or}
+use Rattle.first_evaluator.specs.declared.trees.FirstFile.{FirstFile}
+use Rattle.first_evaluator.specs.Bindings.{are_bound}
+use Rattle.first_evaluator.specs.Values.{assigned_or}
 use Rattle.first_evaluator.specs.declared.resolving.Operand.{Operand}
 use Rattle.first_evaluator.specs.declared.resolving.Operand.TheVariants.{Literal, Property}
 use Rattle.first_evaluator.specs.Resolved.{sums_of}

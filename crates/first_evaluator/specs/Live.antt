@@ -1,7 +1,7 @@
 -- What the evaluator holds, and the world that it stands for.
 use Rattle.std.specs.Prelude.{◌≡◌, ℤ, List, map, Option}
-use Rattle.first_parser.specs.declared.trees.FirstFile.{FirstFile}
-use Rattle.slint_meaning.specs.Values.{World, assignment}
+use Rattle.first_evaluator.specs.declared.trees.FirstFile.{FirstFile}
+use Rattle.first_evaluator.specs.Values.{World, assignment}
 
 -- a component's tree, and for each property in the order of the text the value that was assigned last
 pub record Live : Type 0 where

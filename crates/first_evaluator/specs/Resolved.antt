@@ -1,18 +1,13 @@
 -- What the resolver makes of a tree: each name in a sum gives way to the place of its property.
-use Rattle.std.specs.Prelude.{◌≡◌, ℕ, pos, List, [], ◌∷◌, length, take, reverse, nat_le, if◌then◌else◌, Option, None, Some, Result, Ok, Err, option_map, unwrap_or, String}
+use Rattle.std.specs.Prelude.{◌≡◌, ℕ, List, [], ◌∷◌, length, take, reverse, if◌then◌else◌, Option, None, Some, option_map, unwrap_or, String}
 use Rattle.std.specs.BTreeMap.{BTreeMap, get_by_text}
 use Rattle.std.specs.Str.{bytes_eq}
-use Rattle.slint_base.specs.declared.faults.Fault.{Fault}
-use Rattle.slint_base.specs.declared.rules.Rule.TheVariants.{NotBuilt}
-use Rattle.slint_base.specs.Numbers.{greatest_int}
 use Rattle.slint_base.specs.Options.{onto_all, all_of}
-use Rattle.slint_base.specs.Refusals.{at_start}
-use Rattle.first_parser.specs.declared.trees.Factor.{Factor}
-use Rattle.first_parser.specs.declared.trees.Factor.TheVariants.{Lit, Named}
-use Rattle.first_parser.specs.declared.trees.FirstProp.{FirstProp}
-use Rattle.first_parser.specs.declared.trees.FirstFile.{FirstFile}
-use Rattle.slint_meaning.specs.Runs.{main_file}
-use Rattle.slint_meaning.specs.Sources.{are_bound, has_name, names_of, reserved_words}
+use Rattle.first_evaluator.specs.declared.trees.Factor.{Factor}
+use Rattle.first_evaluator.specs.declared.trees.Factor.TheVariants.{Lit, Named}
+use Rattle.first_evaluator.specs.declared.trees.FirstProp.{FirstProp}
+use Rattle.first_evaluator.specs.declared.trees.FirstFile.{FirstFile}
+use Rattle.first_evaluator.specs.Bindings.{has_name, names_of, reserved_words}
 use Rattle.first_evaluator.specs.declared.resolving.Operand.{Operand}
 use Rattle.first_evaluator.specs.declared.resolving.Operand.TheVariants.{Literal, Property}
 
@@ -21,10 +16,10 @@ abbrev pub place_among : List (List ℕ) → List ℕ → Option ℕ
 place_among [] name = None
 place_among (other ∷ before) name = if bytes_eq other name then Some (length before) else place_among before name
 
--- a number that is an int stands for itself, and a name that is no reserved word for the property at its place
+-- a number stands for itself, and a name that is no reserved word for the property at its place
 abbrev pub operand_of : (List ℕ → Option ℕ) → Factor → Option Operand
-operand_of place_of (Lit n span) = if nat_le n greatest_int then Some (Literal (pos n)) else None
-operand_of place_of (Named name span) = if has_name reserved_words name then None else option_map (λ place. Property place) (place_of name)
+operand_of place_of (Lit n) = Some (Literal n)
+operand_of place_of (Named name) = if has_name reserved_words name then None else option_map (λ place. Property place) (place_of name)
 
 -- the operands of a product
 abbrev pub product_of : (List ℕ → Option ℕ) → List Factor → Option (List Operand)
@@ -56,7 +51,3 @@ names_before props count = reverse (names_of (take count props))
 pub record IsResolved {Y : Type 0} (file : FirstFile) (sums : List (List (List Operand))) (places : BTreeMap (String Y) ℕ) : Type 0 where
   pub resolved : sums_behind [] file.props ≡ Some sums
   pub at : AreAt places (reverse (names_of file.props))
-
--- a tree whose bindings are sound is a component's; another one is outside the language as far as it is built
-abbrev pub resolution : FirstFile → Result FirstFile Fault
-resolution file = if are_bound [] file.props then Ok file else Err (at_start NotBuilt main_file)

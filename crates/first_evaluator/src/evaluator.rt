@@ -1,7 +1,7 @@
 ghost use Rattle.std.specs.Prelude.{◌≡◌, ℕ, ◌+◌, ◌<◌, pos, List, length, max, slice_index_or, IfOk, IfSome, MatchOption, false, Some, slice_get};
 ghost use Rattle.std.specs.List.{All};
-ghost use Rattle.slint_meaning.specs.Sources.{has_name, names_of};
-ghost use Rattle.slint_meaning.specs.Values.{World, assign, opening_world, property_value};
+ghost use Rattle.first_evaluator.specs.Bindings.{has_name, names_of};
+ghost use Rattle.first_evaluator.specs.Values.{World, assign, opening_world, property_value};
 ghost use Rattle.first_evaluator.specs.Live.{Shows};
 ghost use Rattle.first_evaluator.specs.Evaluated.{IsWithin, operand_value, operands_product, operands_sum, value_at, AreRight};
 

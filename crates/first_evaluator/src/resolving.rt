@@ -1,17 +1,17 @@
 ghost use Rattle.std.specs.Prelude.{◌≡◌, ◌<◌, [], length, false, IsTrue, IfOk, IfSome, MatchOption, Some, slice_get, slice_index_or};
 ghost use Rattle.std.specs.BTreeMap.{get_by_text};
-ghost use Rattle.slint_base.specs.Answers.{Gives};
-ghost use Rattle.slint_base.specs.Refusals.{at_start};
-ghost use Rattle.slint_meaning.specs.Sources.{are_bound, has_name, names_of, reserved_words};
-ghost use Rattle.first_evaluator.specs.Resolved.{operand_of, product_of, resolution, sum_of, sums_of};
+ghost use Rattle.first_evaluator.specs.Bindings.{are_bound, has_name, names_of, reserved_words};
+ghost use Rattle.first_evaluator.specs.First.{bound_file, first_source};
+ghost use Rattle.first_evaluator.specs.Resolved.{operand_of, product_of, sum_of, sums_of};
 
-use first_parser::{Factor, FirstFile};
-use slint_base::{End, Fault, Memory, Name, Rule, at_start};
-use slint_meaning::MAIN_FILE;
+use crate::forms::first_file;
+use crate::trees::{Factor, FirstFile};
+use slint_base::{Memory, Name};
 use sqlite_items::Items;
 use std::alloc::Global;
 use std::collections::BTreeMap;
 use std::marker::Model;
+use syntax_tree::File;
 
 /// A factor whose name is resolved: a number, or the place of a property in the order of the text.
 #[derive(Clone, Copy, Debug)]
@@ -36,13 +36,13 @@ fn is_reserved(name: &str) -> bool
     matches!(name, "true" | "false" | "root" | "self" | "parent")
 }
 
-/// A factor with its name resolved; none where the number is no int, or the name that of no earlier property.
+/// A factor with its name resolved; none where the name is that of no earlier property, or a reserved word.
 fn resolve_factor(places: &Places, factor: &Factor) -> Option<Operand>
     ensures { result ≡ operand_of (λ name. get_by_text places.now name) factor.now }
 {
     match factor {
-        Factor::Lit(number, _) => i32::try_from(*number).ok().map(Operand::Literal),
-        Factor::Named(name, _) => {
+        Factor::Lit(value) => Some(Operand::Literal(*value)),
+        Factor::Named(name) => {
             let name = name.as_str();
             if is_reserved(name) {
                 return None;
@@ -99,7 +99,7 @@ pub struct Component {
 }
 
 impl Model for Component {
-    ghost use Rattle.first_parser.specs.declared.trees.FirstFile.{FirstFile};
+    ghost use Rattle.first_evaluator.specs.declared.trees.FirstFile.{FirstFile};
 
     ghost Value = { FirstFile };
 
@@ -110,36 +110,35 @@ impl Model for Component {
     ghost invariant = { λ c. IsResolved c.file c.sums.items c.places };
 }
 
-/// The fault of a source that is outside the language as far as it is built.
-fn not_built() -> Fault
-    ensures { result ≡ at_start Rule.NotBuilt 0 }
-{
-    at_start(Rule::NotBuilt, MAIN_FILE)
-}
-
-/// The component of a tree, each factor of which is looked up once.
-///
-/// # Errors
-///
-/// `NotBuilt`, at the start of the main file, where the tree breaks a rule: two properties have one name, a name in a sum is a
-/// reserved word or no earlier property's, or a number is no int.
-pub fn resolve(alloc: Global, file: FirstFile) -> Result<Component, End<Fault>>
-    ensures { Gives (λ component. component) result (resolution file) }
+/// The component of a tree, each factor of which is looked up once; none where the tree breaks a rule: two properties have one name, or a
+/// name in a sum is a reserved word or no earlier property's.
+pub fn resolve(alloc: Global, file: FirstFile) -> Result<Option<Component>, Memory>
+    ensures { IfOk result (λ found. found ≡ bound_file file) }
 {
     let mut sums = Vec::new(alloc);
     let mut places = Places::new(alloc);
     for prop in file.props.as_slice() {
         if places.contains_key(prop.name.as_str()) {
-            return Err(End::Fault(not_built()));
+            return Ok(None);
         }
         let Some(sum) = resolve_sum(alloc, &places, prop.terms.as_slice())? else {
-            return Err(End::Fault(not_built()));
+            return Ok(None);
         };
         let name = String::from_str(alloc, prop.name.as_str())?;
         places.insert(name, sums.len())?;
         sums.push(sum)?;
     }
-    Ok(Component { file, sums, places })
+    Ok(Some(Component { file, sums, places }))
+}
+
+/// The component of a file's tree; none where the tree is not of the first language, or breaks a rule of `resolve`.
+pub fn component_of(alloc: Global, file: &File) -> Result<Option<Component>, Memory>
+    ensures { IfOk result (λ found. found ≡ first_source file.now) }
+{
+    match first_file(alloc, file)? {
+        Some(file) => resolve(alloc, file),
+        None => Ok(None),
+    }
 }
 
 impl Component {

@@ -229,9 +229,69 @@ fn judges_sources(rt: HostRuntime) -> Result<(), Fail> {
         ),
         (
             &["main.slint"],
-            Some("component A { } // no"),
+            Some("\u{feff}/* /* a */ */component A//\n\x0c{ property/**/<int>a:1/* b */+ 2; }"),
+            DONE,
+            "refused 3\n",
+        ),
+        (
+            &["main.slint"],
+            Some("component A { property <int> a: (1); }"),
             REFUSED,
             "refused 90 main.slint 1:1-1:1\n",
+        ),
+        (
+            &["main.slint"],
+            Some("component A { property <int> a: 1 - 2; }"),
+            REFUSED,
+            "refused 90 main.slint 1:1-1:1\n",
+        ),
+        (
+            &["main.slint"],
+            Some("component A { out property <int> a: 1; }"),
+            REFUSED,
+            "refused 90 main.slint 1:1-1:1\n",
+        ),
+        (
+            &["main.slint"],
+            Some("component A {"),
+            REFUSED,
+            "refused 10 main.slint 1:14-1:14\n",
+        ),
+        (
+            &["main.slint"],
+            Some("component A"),
+            REFUSED,
+            "refused 10 main.slint 1:12-1:12\n",
+        ),
+        (
+            &["main.slint"],
+            Some("component"),
+            REFUSED,
+            "refused 10 main.slint 1:10-1:10\n",
+        ),
+        (
+            &["main.slint"],
+            Some("component Main {\n    property <bool> d: a && b || c;\n}\n"),
+            REFUSED,
+            "refused 10 main.slint 2:31-2:33\n",
+        ),
+        (
+            &["main.slint"],
+            Some("} #"),
+            REFUSED,
+            "refused 2 main.slint 1:3-1:4\n",
+        ),
+        (
+            &["main.slint"],
+            Some("component A { property <int> a: 1zz; }"),
+            REFUSED,
+            "refused 3 main.slint 1:33-1:36\n",
+        ),
+        (
+            &["main.slint"],
+            Some("component A { property <string> a: \"\\q\"; }"),
+            REFUSED,
+            "refused 4 main.slint 1:37-1:39\n",
         ),
         (
             &[],
@@ -312,7 +372,10 @@ fn keeps_the_limits(rt: HostRuntime) -> Result<(), Fail> {
         assert_eq!(rt; came.bytes.as_slice(), want.as_bytes(), "{count}");
         assert!(rt; came.status == status, "{count}");
     }
-    for (count, status) in [(262_144, DONE), (262_145, REFUSED)] {
+    for (count, status, want) in [
+        (262_144, DONE, ""),
+        (262_145, REFUSED, "refused 24 main.slint 1:1-1:1\n"),
+    ] {
         let mut long = String::from_str(rt.alloc(), "component A { }")?;
         for _ in 15..count {
             long.push(' ')?;
@@ -320,7 +383,29 @@ fn keeps_the_limits(rt: HostRuntime) -> Result<(), Fail> {
         let came = Given::quiet(rt.alloc(), &["main.slint"], Some(long.as_str()), b"").run(
             rt.alloc(),
         )?;
+        assert_eq!(rt; came.bytes.as_slice(), want.as_bytes(), "{count}");
         assert!(rt; came.status == status, "{count}");
+    }
+    Ok(())
+}
+
+#[test]
+fn refuses_what_is_too_deep(rt: HostRuntime) -> Result<(), Fail> {
+    for (pairs, want) in [
+        (98, "refused 90 main.slint 1:1-1:1\n"),
+        (99, "refused 11 main.slint 2:122-2:123\n"),
+    ] {
+        let mut body = String::from_str(rt.alloc(), "    property <int> a: ")?;
+        for (part, count) in [("(", pairs), ("1", 1), (")", pairs), (";", 1)] {
+            for _ in 0..count {
+                body.push_str(part)?;
+            }
+        }
+        let source = component(rt.alloc(), body.as_str())?;
+        let came = Given::quiet(rt.alloc(), &["main.slint"], Some(source.as_str()), b"").run(
+            rt.alloc(),
+        )?;
+        assert_eq!(rt; came.bytes.as_slice(), want.as_bytes(), "{pairs}");
     }
     Ok(())
 }
@@ -384,15 +469,23 @@ fn evaluates_a_long_chain(rt: HostRuntime) -> Result<(), Fail> {
         let line = format!(in rt.alloc(); "property <int> p{k}: p{before} + p{before};\n")?;
         body.push_str(line.as_str())?;
     }
+    body.push_str("property <int> sum: p1")?;
+    for _ in 0..10_000u32 {
+        body.push_str("+p1*1")?;
+    }
+    body.push(';')?;
     let source = component(rt.alloc(), body.as_str())?;
     let came = Given::quiet(
         rt.alloc(),
         &["main.slint"],
         Some(source.as_str()),
-        b"get root.p4999\nset root.p4990 1\nget root.p4999",
+        b"get root.p4999\nset root.p4990 1\nget root.p4999\nget root.sum",
     )
     .run(rt.alloc())?;
-    assert_eq!(rt; came.bytes.as_slice(), b"2147483647\nok\n512\n".as_slice());
+    assert_eq!(rt;
+        came.bytes.as_slice(),
+        b"2147483647\nok\n512\n20002\n".as_slice()
+    );
     Ok(())
 }
 

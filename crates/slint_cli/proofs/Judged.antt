@@ -1,55 +1,47 @@
--- When bytes are a source, from what was lexed, parsed and resolved of them.
-use Rattle.std.proofs.Common.{◌≡◌, ℕ, ◌≤◌, Bool, true, false, cond, List, [], length, refl, sym, ◌∙◌, subst, Some, Result, Ok, Err}
-use Rattle.std.proofs.lemmas.Bool.{false≢true}
+-- What the bytes of a file read as, and the verdict, from what was lexed, parsed and resolved of them.
+use Rattle.std.proofs.Common.{◌≡◌, ℕ, ◌<◌, ◌≤◌, List, length, Some, None, Option, Result, Ok, Err, refl, sym, ap, ◌∙◌, subst}
 use Rattle.slint_base.specs.declared.endings.End.{End}
 use Rattle.slint_base.specs.declared.endings.End.TheVariants as ends
 use Rattle.slint_base.specs.declared.faults.Fault.{Fault}
-use Rattle.slint_base.specs.declared.rules.Rule.TheVariants.{NotBuilt}
-use Rattle.slint_base.specs.Answers.{Gives}
+use Rattle.slint_base.specs.declared.rules.Rule.TheVariants.{FileTooLong, NotBuilt}
 use Rattle.slint_base.specs.Refusals.{at_start}
-use Rattle.first_lexer.specs.declared.tokens.Token.{Token}
-use Rattle.first_parser.specs.declared.trees.FirstFile.{FirstFile}
-use Rattle.first_parser.specs.Grammar.{DerivesFile}
-use Rattle.first_lexer.specs.Tokens.{Lexes}
-use Rattle.slint_meaning.specs.Runs.{main_file}
-use Rattle.first_evaluator.specs.Resolved.{resolution}
-use Rattle.slint_cli.specs.Verdicts.{Judges}
-use Rattle.slint_meaning.specs.Sources.{IsSource, NoSource, are_bound, most_bytes}
+use Rattle.slint_lexer.specs.declared.tokens.Token.{Token}
+use Rattle.slint_lexer.specs.Lexing.{IsLexing, EndsLexing}
+use Rattle.syntax_tree.specs.declared.files.File.{File}
+use Rattle.slint_grammar.specs.Faults.{Parses}
+use Rattle.first_evaluator.specs.declared.trees.FirstFile.{FirstFile}
+use Rattle.first_evaluator.specs.First.{first_source}
+use Rattle.slint_meaning.specs.Runs.{main_file, accepted, rejected, first_verdict}
+use Rattle.slint_meaning.specs.Sources.{IsRead, too_long, no_tokens, no_tree, reads, most_bytes}
+use Rattle.slint_cli.specs.Verdicts.{Judges, ReadsAs}
 
--- without a tree of the one list of tokens there is no source
-pub NoSource-no_tree : (bytes : List ℕ) (tokens : List Token) → ((others : List Token) → Lexes 0 0 bytes others → others ≡ tokens)
-    → ((file : FirstFile) → DerivesFile tokens file → ⊥) → NoSource bytes
-NoSource-no_tree bytes tokens only none = λ file source. let P : List Token → Type 0 = λ ts. DerivesFile ts file in none file (subst P (only source.tokens source.lexes) source.derives)
+-- a file that is too long
+pub read_too_long : (file : ℕ) (bytes : List ℕ) (fault : Fault) → most_bytes < length bytes → fault ≡ at_start FileTooLong file → IsRead file bytes (Err fault)
+read_too_long file bytes fault long e = subst (λ (f : Fault). IsRead file bytes (Err f)) (sym e) (too_long long)
 
--- nor where the one tree isn't bound
-NoSource-unbound : (bytes : List ℕ) (tokens : List Token) (tree : FirstFile) → ((others : List Token) → Lexes 0 0 bytes others → others ≡ tokens)
-    → ((other : FirstFile) → DerivesFile tokens other → other ≡ tree) → are_bound [] tree.props ≡ false → NoSource bytes
-NoSource-unbound bytes tokens tree only one unbound = λ file source.
-    let P : List Token → Type 0 = λ ts. DerivesFile ts file in
-    let same = one file (subst P (only source.tokens source.lexes) source.derives) in
-    let Q : FirstFile → Type 0 = λ f. are_bound [] f.props ≡ true in
-    absurd (false≢true (sym unbound ∙ subst Q same source.bound))
+-- how lexing ended
+pub read_unlexed : (file : ℕ) (bytes : List ℕ) (end : End Fault) → length bytes ≤ most_bytes → EndsLexing file bytes end → ReadsAs file bytes (Err end)
+read_unlexed file bytes (ends.Fault fault) short h = no_tokens fault short h.faulted
+read_unlexed file bytes ends.Memory short h = tt
 
--- what the resolver answered is the verdict
-module _ (bytes : List ℕ) (tokens : List Token) (tree : FirstFile) (short : length bytes ≤ most_bytes) (lexes : Lexes 0 0 bytes tokens)
-    (only : (others : List Token) → Lexes 0 0 bytes others → others ≡ tokens) (derives : DerivesFile tokens tree)
-    (one : (other : FirstFile) → DerivesFile tokens other → other ≡ tree) where
-  abbrev by_bound : Bool → Result FirstFile Fault
-  by_bound b = cond b (Ok tree) (Err (at_start NotBuilt main_file))
+-- how parsing ended
+read_by : (file len : ℕ) (bytes : List ℕ) (tokens : List Token) (answer : Result File (End Fault)) → length bytes ≤ most_bytes → len ≡ length bytes → IsLexing file bytes tokens → Parses file len tokens answer → ReadsAs file bytes answer
+read_by file len bytes tokens (Ok tree) short l lexed h = reads tokens tree short lexed h
+read_by file len bytes tokens (Err (ends.Fault fault)) short l lexed h = no_tree tokens fault short lexed (subst (λ (n : ℕ). Parses file n tokens (Err (ends.Fault fault))) l h)
+read_by file len bytes tokens (Err ends.Memory) short l lexed h = tt
 
-  accepted_by : (b : Bool) (file : FirstFile) → are_bound [] tree.props ≡ b → by_bound b ≡ Ok file → IsSource bytes file
-  accepted_by true file bound e =
-      let source : IsSource bytes tree = record { short = short; tokens = tokens; lexes = lexes; derives = derives; bound = bound } in
-      let same : tree ≡ file = cc in
-      let P : FirstFile → Type 0 = IsSource bytes in subst P same source
-  accepted_by false file bound e = cc
+pub read_lexed : (file len : ℕ) (bytes : List ℕ) (tokens given : List Token) (answer : Result File (End Fault)) → length bytes ≤ most_bytes → len ≡ length bytes → IsLexing file bytes tokens → given ≡ tokens → Parses file len given answer → ReadsAs file bytes answer
+read_lexed file len bytes tokens given answer short l lexed same h = read_by file len bytes tokens answer short l lexed (subst (λ (ts : List Token). Parses file len ts answer) same h)
 
-  rejected_by : (b : Bool) (fault : Fault) → are_bound [] tree.props ≡ b → by_bound b ≡ Err fault → (fault ≡ at_start NotBuilt main_file) × NoSource bytes
-  rejected_by true fault bound e = cc
-  rejected_by false fault bound e =
-      let same : at_start NotBuilt main_file ≡ fault = cc in (sym same, NoSource-unbound bytes tokens tree only one bound)
+-- a main file that has no tree
+pub judged_unread : (bytes : List ℕ) (end : End Fault) → ReadsAs main_file bytes (Err end) → Judges (Some bytes) (Err end)
+judged_unread bytes (ends.Fault fault) h = (Err fault, h, refl)
+judged_unread bytes ends.Memory h = tt
 
-  pub judged : (answer : Result FirstFile (End Fault)) → Gives (λ file. file) answer (resolution tree) → Judges (Some bytes) answer
-  judged (Ok file) gives = accepted_by (are_bound [] tree.props) file refl gives
-  judged (Err (ends.Fault fault)) gives = rejected_by (are_bound [] tree.props) fault refl gives
-  judged (Err ends.Memory) gives = tt
+-- one whose tree is of the first language
+pub judged_first : (bytes : List ℕ) (tree : File) (found : Option FirstFile) (file : FirstFile) → IsRead main_file bytes (Ok tree) → found ≡ first_source tree → found ≡ Some file → Judges (Some bytes) (Ok file)
+judged_first bytes tree found file read e some = (Ok tree, read, ap first_verdict (sym some ∙ e))
+
+-- and one whose tree isn't
+pub judged_other : (bytes : List ℕ) (tree : File) (found : Option FirstFile) (fault : Fault) → IsRead main_file bytes (Ok tree) → found ≡ first_source tree → found ≡ None → fault ≡ at_start NotBuilt main_file → Judges (Some bytes) (Err (ends.Fault fault))
+judged_other bytes tree found fault read e none is = (Ok tree, read, ap (λ f. rejected f) is ∙ ap first_verdict (sym none ∙ e))

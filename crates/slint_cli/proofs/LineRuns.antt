@@ -1,10 +1,10 @@
 -- A run goes on by a line.
 use Rattle.std.proofs.Common.{◌≡◌, ℕ, List, [], ◌∷◌, ◌++◌, length, refl, sym, ap, ◌∙◌, append_assoc, arith}
 use Rattle.script_lines.specs.Lines.{lines_of}
-use Rattle.first_parser.specs.declared.trees.FirstFile.{FirstFile}
+use Rattle.first_evaluator.specs.declared.trees.FirstFile.{FirstFile}
 use Rattle.slint_meaning.specs.Commands.{Turn, goes_on, halts, does_line}
 use Rattle.slint_meaning.specs.Runs.{Outcome, behind, after_turn, run_lines}
-use Rattle.slint_meaning.specs.Values.{World}
+use Rattle.first_evaluator.specs.Values.{World}
 use Rattle.first_evaluator.specs.Live.{Live, Shows}
 use Rattle.slint_cli.specs.Turns.{Answers}
 

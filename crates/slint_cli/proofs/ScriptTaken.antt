@@ -4,10 +4,10 @@ use Rattle.std.specs.Prelude.{nat_le}
 use Rattle.std.specs.Io.KnownBytes.{Consumes, IsAtEnd}
 use Rattle.std.proofs.lemmas.Bool.Decides.{leb_tells}
 use Rattle.std.proofs.lemmas.List.{take-append-le}
-use Rattle.first_parser.specs.declared.trees.FirstFile.{FirstFile}
+use Rattle.first_evaluator.specs.declared.trees.FirstFile.{FirstFile}
 use Rattle.script_lines.specs.Lines.{whole_lines}
 use Rattle.slint_meaning.specs.Runs.{Outcome, run_script, run_lines, most_script, cut_off}
-use Rattle.slint_meaning.specs.Values.{opening_world}
+use Rattle.first_evaluator.specs.Values.{opening_world}
 use Rattle.slint_cli.specs.Running.{RanScript}
 
 -- of a script that is too long the front counts

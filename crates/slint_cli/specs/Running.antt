@@ -7,7 +7,7 @@ use Rattle.io_edge.specs.declared.whole.SourceEnd.{SourceEnd}
 use Rattle.io_edge.specs.declared.whole.SourceEnd.TheVariants as source_ends
 use Rattle.io_edge.specs.Counts.{Rose}
 use Rattle.io_edge.specs.Files.{FileList, bytes_named}
-use Rattle.first_parser.specs.declared.trees.FirstFile.{FirstFile}
+use Rattle.first_evaluator.specs.declared.trees.FirstFile.{FirstFile}
 use Rattle.slint_meaning.specs.declared.endings.Ending.{Ending}
 use Rattle.slint_meaning.specs.declared.endings.Ending.TheVariants.{Done, Words, Refused, ScriptLong}
 use Rattle.slint_meaning.specs.Runs.{Outcome, RunsFile, missing_line, most_script, run_script}

@@ -1,8 +1,8 @@
 -- What a line left behind, as the turn that the definitions give.
 use Rattle.std.specs.Prelude.{◌≡◌, ℕ, List, ◌++◌, Some, slice_get}
-use Rattle.first_parser.specs.declared.trees.FirstFile.{FirstFile}
+use Rattle.first_evaluator.specs.declared.trees.FirstFile.{FirstFile}
 use Rattle.slint_meaning.specs.Commands.{Turn, goes_on, halts, Target, nothing, root, property}
-use Rattle.slint_meaning.specs.Sources.{names_of}
+use Rattle.first_evaluator.specs.Bindings.{names_of}
 use Rattle.first_evaluator.specs.Live.{Live, Shows}
 use Rattle.slint_cli.specs.declared.answers.Target.{Target as Found}
 use Rattle.slint_cli.specs.declared.answers.Target.TheVariants.{Nothing, Root, Property}

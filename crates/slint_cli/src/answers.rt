@@ -1,7 +1,7 @@
 ghost use Rattle.std.specs.Prelude.{◌≡◌, ◌<◌, ℕ, List, ◌++◌, length, slice_get, Some, OnOk};
 ghost use Rattle.slint_meaning.specs.Commands.{refusal_reply, value_reply, does_assign, does_get, does_set, does_command, does_line, target_of};
-ghost use Rattle.slint_meaning.specs.Sources.{names_of};
-ghost use Rattle.slint_meaning.specs.Values.{World};
+ghost use Rattle.first_evaluator.specs.Bindings.{names_of};
+ghost use Rattle.first_evaluator.specs.Values.{World};
 ghost use Rattle.first_evaluator.specs.Live.{Shows};
 ghost use Rattle.slint_cli.specs.Turns.{Answers, LeadsTo};
 

@@ -1,7 +1,7 @@
 ghost use Rattle.std.specs.Prelude.{◌≡◌, IfOk, List, ℕ, nat_le, length, MatchBool};
 ghost use Rattle.script_lines.specs.Lines.{lines_of};
 ghost use Rattle.slint_meaning.specs.Runs.{Outcome, behind, most_script, run_lines, run_script};
-ghost use Rattle.slint_meaning.specs.Values.{opening_world};
+ghost use Rattle.first_evaluator.specs.Values.{opening_world};
 ghost use Rattle.slint_meaning.specs.declared.endings.Ending.TheVariants as endings;
 ghost use Rattle.slint_cli.specs.Outputs.{outcome_of};
 

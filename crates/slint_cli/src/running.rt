@@ -11,7 +11,7 @@ use crate::status::Stop;
 use first_evaluator::Component;
 use io_edge::{Files, Found, Source, take_up_to};
 use slint_base::{End, Fault, Memory, Refusal, Rule, at_start};
-use slint_meaning::{Ending, MAIN_FILE};
+use slint_meaning::{Ending, MAIN_FILE, reading_rules};
 use std::alloc::Global;
 
 /// The outcome of a component over a script, which is taken whole before its first line runs.
@@ -59,6 +59,8 @@ fn run_file<F: Files, S: Source>(
     ensures files_steady { F.is_steady files.old → IsQuiet (F.is_steady files.new) (F.faults files.old) (F.faults files.new) }
     ensures script_steady { S.is_steady script.old → IsQuiet (S.is_steady script.new) (S.faults script.old) (S.faults script.new) }
 {
+    // The fault of a file that is there is never that of a missing one.
+    reading_rules();
     match files.read(alloc, name)? {
         Found::Missing => Ok(refuse(alloc, name, b"", at_start(Rule::FileMissing, MAIN_FILE))?),
         Found::Bytes(bytes) => match judge(alloc, &bytes) {

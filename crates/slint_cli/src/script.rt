@@ -1,7 +1,7 @@
 ghost use Rattle.std.specs.Prelude.{◌≡◌, OnOk};
 ghost use Rattle.script_lines.specs.Lines.{lines_of};
 ghost use Rattle.slint_meaning.specs.Runs.{Outcome, behind, run_lines};
-ghost use Rattle.slint_meaning.specs.Values.{World};
+ghost use Rattle.first_evaluator.specs.Values.{World};
 ghost use Rattle.first_evaluator.specs.Live.{Shows};
 
 use crate::answers::answer_line;

@@ -8,8 +8,8 @@ use Rattle.std.proofs.lemmas.List.{reverse-append}
 use Rattle.std.proofs.lemmas.List.Elements.{All-head, All-tail}
 use Rattle.std.proofs.lemmas.List.Folds.{list_any-append}
 use Rattle.std.proofs.lemmas.Slice.Eq.{bytes_eq-Decides}
-use Rattle.first_parser.specs.declared.trees.FirstFile.{FirstFile}
-use Rattle.first_parser.specs.declared.trees.FirstProp.{FirstProp}
+use Rattle.first_evaluator.specs.declared.trees.FirstFile.{FirstFile}
+use Rattle.first_evaluator.specs.declared.trees.FirstProp.{FirstProp}
 use Rattle.script_lines.specs.declared.commands.Command.{Command}
 use Rattle.script_lines.specs.declared.commands.Command.TheVariants.{Get, Set}
 use Rattle.script_lines.specs.declared.commands.BadLine.{BadLine}
@@ -19,8 +19,8 @@ use Rattle.script_lines.specs.Ints.{int_reading}
 use Rattle.slint_meaning.specs.Commands.{Target, nothing, root, property, target_of, value_reply, does_get, does_assign, does_set, does_command, does_reading, does_line}
 use Rattle.slint_meaning.specs.Laws.{turn_answer, turn_world, answer_of, world_after, Sets, Gets, SetsNot}
 use Rattle.script_lines.specs.Lines.{line_reading}
-use Rattle.slint_meaning.specs.Sources.{has_name, names_of}
-use Rattle.slint_meaning.specs.Values.{World, assign, assigned_or, assignment, latest, value_among, sum_value}
+use Rattle.first_evaluator.specs.Bindings.{has_name, names_of}
+use Rattle.first_evaluator.specs.Values.{World, assign, assigned_or, assignment, latest, value_among, sum_value}
 
 -- ---- what a line does to an assignment
 

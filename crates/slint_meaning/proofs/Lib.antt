@@ -1,3 +1,4 @@
 pub mod Assignments
 pub mod Outcomes
+pub mod Readings
 pub mod Turns

@@ -1,6 +1,6 @@
 -- How lines follow one another: none halts, and a refused one leaves the world.
 use Rattle.std.proofs.Common.{◌≡◌, ℕ, ℤ, List, [], ◌∷◌, ◌++◌, Option, Some, None, Result, Ok, Err, refl, sym, ap, ◌∙◌, append_assoc}
-use Rattle.first_parser.specs.declared.trees.FirstFile.{FirstFile}
+use Rattle.first_evaluator.specs.declared.trees.FirstFile.{FirstFile}
 use Rattle.script_lines.specs.declared.commands.Command.{Command}
 use Rattle.script_lines.specs.declared.commands.Command.TheVariants.{Get, Set}
 use Rattle.script_lines.specs.declared.commands.BadLine.{BadLine}
@@ -11,7 +11,7 @@ use Rattle.slint_meaning.specs.Commands.{Turn, goes_on, Target, nothing, root, p
 use Rattle.slint_meaning.specs.Laws.{turn_answer, turn_world, answer_of, world_after, answers}
 use Rattle.script_lines.specs.Lines.{line_reading}
 use Rattle.slint_meaning.specs.Runs.{Outcome, behind, after_turn, run_lines}
-use Rattle.slint_meaning.specs.Values.{World}
+use Rattle.first_evaluator.specs.Values.{World}
 
 -- a turn that goes on
 abbrev pub GoesOn : World → Turn → Type 0

@@ -2,7 +2,7 @@
 use Rattle.std.specs.Prelude.{ℕ, ℤ, List, [], ◌∷◌, ◌++◌, ◌&&◌, is_none, if◌then◌else◌, codes, Option, None, Some, Result, Ok, Err}
 use Rattle.std.specs.Fmt.{decimal, signed_decimal}
 use Rattle.std.specs.Str.{bytes_eq}
-use Rattle.first_parser.specs.declared.trees.FirstFile.{FirstFile}
+use Rattle.first_evaluator.specs.declared.trees.FirstFile.{FirstFile}
 use Rattle.script_lines.specs.declared.commands.PathStep.{PathStep}
 use Rattle.script_lines.specs.declared.commands.Command.{Command}
 use Rattle.script_lines.specs.declared.commands.Command.TheVariants.{Get, Set}
@@ -14,8 +14,8 @@ use Rattle.slint_meaning.specs.declared.refusals.LineRefusal.TheVariants as refu
 use Rattle.script_lines.specs.Ints.{int_reading}
 use Rattle.script_lines.specs.Lines.{line_reading}
 use Rattle.slint_meaning.specs.Refusals.{refusal_number}
-use Rattle.slint_meaning.specs.Sources.{has_name, names_of}
-use Rattle.slint_meaning.specs.Values.{World, assign, property_value}
+use Rattle.first_evaluator.specs.Bindings.{has_name, names_of}
+use Rattle.first_evaluator.specs.Values.{World, assign, property_value}
 
 -- what a line does: it answers these bytes, and the run goes on in a world or halts
 pub data Turn : Type 0 where

@@ -1,12 +1,12 @@
 -- What the laws speak of: the answers of lines, the world after them, and lines that assign or ask for a property.
 use Rattle.std.specs.Prelude.{◌≡◌, ℕ, ℤ, List, [], ◌∷◌, ◌++◌, Some, Ok}
-use Rattle.first_parser.specs.declared.trees.FirstFile.{FirstFile}
+use Rattle.first_evaluator.specs.declared.trees.FirstFile.{FirstFile}
 use Rattle.script_lines.specs.declared.commands.PathStep.{PathStep}
 use Rattle.script_lines.specs.declared.commands.Command.TheVariants.{Get, Set}
 use Rattle.script_lines.specs.Ints.{int_reading}
 use Rattle.slint_meaning.specs.Commands.{Turn, goes_on, halts, does_line, property, target_of}
 use Rattle.script_lines.specs.Lines.{line_reading}
-use Rattle.slint_meaning.specs.Values.{World}
+use Rattle.first_evaluator.specs.Values.{World}
 
 -- what a turn answers
 abbrev pub turn_answer : Turn → List ℕ

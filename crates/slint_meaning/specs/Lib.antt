@@ -4,4 +4,3 @@ pub mod Laws
 pub mod Refusals
 pub mod Runs
 pub mod Sources
-pub mod Values

@@ -1,16 +1,18 @@
 -- What a whole run writes and how it ends: a function of its words, the files and the script.
-use Rattle.std.specs.Prelude.{◌≡◌, ℕ, List, [], ◌∷◌, ◌++◌, take, length, ◌==◌, nat_le, if◌then◌else◌, codes, Option, None, Some, unwrap_or, slice_index}
+use Rattle.std.specs.Prelude.{◌≡◌, ℕ, List, [], ◌∷◌, ◌++◌, take, length, ◌==◌, nat_le, if◌then◌else◌, codes, Option, None, Some, Result, Ok, Err, unwrap_or, slice_index}
 use Rattle.slint_base.specs.declared.faults.Fault.{Fault}
 use Rattle.slint_base.specs.declared.rules.Rule.TheVariants.{FileMissing, NotBuilt}
 use Rattle.slint_base.specs.Refusals.{at_start, refusal_line, refusal_of}
 use Rattle.io_edge.specs.Files.{FileList, bytes_named}
-use Rattle.first_parser.specs.declared.trees.FirstFile.{FirstFile}
+use Rattle.syntax_tree.specs.declared.files.File.{File}
+use Rattle.first_evaluator.specs.declared.trees.FirstFile.{FirstFile}
+use Rattle.first_evaluator.specs.First.{first_source}
+use Rattle.first_evaluator.specs.Values.{World, opening_world}
 use Rattle.slint_meaning.specs.declared.endings.Ending.{Ending}
 use Rattle.slint_meaning.specs.declared.endings.Ending.TheVariants.{Done, Words, Refused, ScriptLong}
 use Rattle.slint_meaning.specs.Commands.{Turn, goes_on, halts, written, does_line}
 use Rattle.script_lines.specs.Lines.{lines_of, whole_lines}
-use Rattle.slint_meaning.specs.Sources.{IsSource, NoSource}
-use Rattle.slint_meaning.specs.Values.{World, opening_world}
+use Rattle.slint_meaning.specs.Sources.{IsRead}
 
 -- how a run ended by itself, and all that it wrote
 pub record Outcome : Type 0 where
@@ -59,12 +61,20 @@ pub data Verdict : Type 0 where
 abbrev pub main_file : ℕ
 main_file = 0
 
--- the verdict on the main file, given its bytes where there is such a file; both rules are broken by the file as a whole
+-- the verdict on a tree, by what it is in the language as far as it is built
+abbrev pub first_verdict : Option FirstFile → Verdict
+first_verdict None = rejected (at_start NotBuilt main_file)
+first_verdict (Some file) = accepted file
+
+-- the verdict on a main file that reads as this
+abbrev pub verdict_of : Result File Fault → Verdict
+verdict_of (Ok tree) = first_verdict (first_source tree)
+verdict_of (Err fault) = rejected fault
+
+-- the verdict on the main file, given its bytes where there is such a file
 abbrev pub HasVerdict : Option (List ℕ) → Verdict → Type 0
-HasVerdict None (accepted file) = ⊥
-HasVerdict None (rejected fault) = fault ≡ at_start FileMissing main_file
-HasVerdict (Some bytes) (accepted file) = IsSource bytes file
-HasVerdict (Some bytes) (rejected fault) = (fault ≡ at_start NotBuilt main_file) × NoSource bytes
+HasVerdict None verdict = verdict ≡ rejected (at_start FileMissing main_file)
+HasVerdict (Some bytes) verdict = (reading : Result File Fault) × IsRead main_file bytes reading × (verdict ≡ verdict_of reading)
 
 -- the line of a source that is refused for a fault in a file of this name and these bytes
 abbrev pub verdict_line : List ℕ → List ℕ → Fault → List ℕ

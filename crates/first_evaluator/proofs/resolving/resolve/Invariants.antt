@@ -1,6 +1,6 @@
 use Rattle.std.proofs.Common.{◌≡◌, [], drop, length}
 use Rattle.first_evaluator.specs.Resolved.{sums_behind, names_before, AreAt}
-use Rattle.first_evaluator.proofs.ResolvedSums.{behind_all}
+use Rattle.first_evaluator.proofs.AllOf.{behind_all}
 use Rattle.first_evaluator.proofs.resolving.resolve.Given as goal
 
 -- all sums are the sums so far and those of the properties that are left, and the map has the names so far

@@ -1,7 +1,7 @@
 use Rattle.std.proofs.Common.{◌≡◌, drop}
 use Rattle.std.specs.BTreeMap.{get_by_text}
 use Rattle.first_evaluator.specs.Resolved.{sum_of}
-use Rattle.first_evaluator.proofs.ResolvedSums.{behind_all}
+use Rattle.first_evaluator.proofs.AllOf.{behind_all}
 use Rattle.first_evaluator.proofs.resolving.resolve_sum.Given as goal
 
 -- what is made of all terms is the products so far and what is made of the others

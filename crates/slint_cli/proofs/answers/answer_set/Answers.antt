@@ -3,7 +3,7 @@ use Rattle.std.specs.Prelude.{ℤ}
 use Rattle.std.proofs.lemmas.Result.{on_ok_weaker}
 use Rattle.script_lines.specs.Ints.{int_reading}
 use Rattle.slint_meaning.specs.Commands.{Target, property, does_assign, does_set, target_of}
-use Rattle.slint_meaning.specs.Values.{World}
+use Rattle.first_evaluator.specs.Values.{World}
 use Rattle.first_evaluator.specs.Live.{Live}
 use Rattle.slint_cli.specs.Turns.{Answers}
 use Rattle.slint_cli.proofs.answers.answer_set.Goals as goal

@@ -1,9 +1,9 @@
 use Rattle.std.proofs.Common.{◌≡◌, true, List, [], ◌∷◌, length, get_or, arith, rules, refl, is_none, codes}
 use Rattle.std.specs.Str.{bytes_eq}
-use Rattle.first_parser.specs.declared.trees.FirstFile.{FirstFile}
+use Rattle.first_evaluator.specs.declared.trees.FirstFile.{FirstFile}
 use Rattle.script_lines.specs.declared.commands.PathStep.{PathStep}
 use Rattle.slint_meaning.specs.Commands.{target_of, property}
-use Rattle.slint_meaning.specs.Sources.{has_name, names_of}
+use Rattle.first_evaluator.specs.Bindings.{has_name, names_of}
 use Rattle.slint_cli.proofs.NameLookups.{has_name-at}
 use Rattle.slint_cli.proofs.answers.target_of.Goals as goal
 

@@ -1,11 +1,11 @@
-use Rattle.std.proofs.Common.{ap, sym, ◌∙◌, rules, [], Some}
+use Rattle.std.proofs.Common.{◌≡◌, ap, sym, ◌∙◌, rules, [], Some}
 use Rattle.std.proofs.lemmas.Result.{IfOk-weaker}
 use Rattle.slint_base.specs.declared.faults.Fault.{Fault}
 use Rattle.slint_meaning.specs.declared.endings.Ending.TheVariants.{Refused}
 use Rattle.slint_meaning.specs.Runs.{Outcome, verdict_line}
 use Rattle.slint_cli.specs.declared.replies.Output.{Output}
 use Rattle.slint_cli.specs.Outputs.{outcome_of}
-use Rattle.slint_cli.specs.Running.{RanFile, RanScript}
+use Rattle.slint_cli.specs.Running.{MissedFile, RanFile, RanScript}
 use Rattle.slint_cli.proofs.FilesFound.{ran_missing, ran_rejected, ran_accepted, rejected_there, judged_fault}
 use Rattle.slint_cli.proofs.running.run_file.Goals as goal
 
@@ -38,4 +38,10 @@ pub returns-in-Err-Fault-clause-missed : goal.returns-in-Err-Fault-clause-missed
 returns-in-Err-Fault-clause-missed g c =
     let verdict = judged_fault c.deref.result.now c.in-Bytes.bytes.items c.judge.result c.in-Err-Fault.fault c.judge.ensures c.deref.ensures.value (search rules) in
     let made = rw c.deref-in-Err-Fault.ensures.value at c.in_ok-refuse-in-Err-Fault.ensures in
-    λ refused missing. absurd (rejected_there c.args.name.now c.in-Bytes.bytes.items c.in-Err-Fault.fault verdict (sym (ap (λ (outcome : Outcome). outcome.bytes) made) ∙ missing))
+    λ refused missing. absurd (rejected_there c.reading_rules.ensures c.args.name.now c.in-Bytes.bytes.items c.in-Err-Fault.fault verdict (sym (ap (λ (outcome : Outcome). outcome.bytes) made) ∙ missing))
+
+pub returns-in-Ok-clause-missed : goal.returns-in-Ok-clause-missed
+returns-in-Ok-clause-missed g c =
+    let P : Output → Type 0 = λ output. output.end ≡ Refused → ⊥ in
+    let Q : Output → Type 0 = λ output. MissedFile c.args.name.now (g.F.Files.misses c.args.files.now) (g.F.Files.misses c.read.new.self) output in
+    IfOk-weaker c.run_component.result P Q (λ output runs refused missing. absurd (runs refused)) c.run_component.ensures.ended

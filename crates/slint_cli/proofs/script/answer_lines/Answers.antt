@@ -1,5 +1,5 @@
 use Rattle.std.proofs.Common.{◌≡◌, ap, subst, ◌∙◌, length, rules}
-use Rattle.first_parser.specs.declared.trees.FirstFile.{FirstFile}
+use Rattle.first_evaluator.specs.declared.trees.FirstFile.{FirstFile}
 use Rattle.slint_meaning.specs.Commands.{does_line}
 use Rattle.script_lines.specs.Lines.{lines_of}
 use Rattle.slint_meaning.specs.Runs.{behind, run_lines}

@@ -1,7 +1,7 @@
 use Rattle.std.proofs.Common.{◌≡◌, length}
 use Rattle.script_lines.specs.Lines.{lines_of}
 use Rattle.slint_meaning.specs.Runs.{Outcome, behind, run_lines}
-use Rattle.slint_meaning.specs.Values.{World}
+use Rattle.first_evaluator.specs.Values.{World}
 use Rattle.first_evaluator.specs.Live.{Shows}
 use Rattle.slint_cli.proofs.script.answer_lines.Given as goal
 

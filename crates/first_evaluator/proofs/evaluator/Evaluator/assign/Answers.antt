@@ -2,7 +2,7 @@ use Rattle.std.proofs.Common.{◌≡◌, Some, sym, ap, ◌∙◌, subst, set}
 use Rattle.std.specs.List.{slice_get}
 use mir.Syntax.{w32}
 use Rattle.std.proofs.lemmas.Int.{to_z-of_z}
-use Rattle.slint_meaning.specs.Sources.{names_of}
+use Rattle.first_evaluator.specs.Bindings.{names_of}
 use Rattle.first_evaluator.specs.Live.{Live, Shows}
 use Rattle.first_evaluator.proofs.EvaluatedValues.{shows_assign}
 use Rattle.first_evaluator.proofs.evaluator.Evaluator.assign.Goals as goal

@@ -3,8 +3,8 @@ use mir.Syntax.{w32}
 use mir.Val.{SFits}
 use Rattle.std.specs.List.{slice_get}
 use Rattle.std.proofs.lemmas.Int.{to_z-of_z}
-use Rattle.slint_meaning.specs.Sources.{names_of}
-use Rattle.slint_meaning.specs.Values.{property_value}
+use Rattle.first_evaluator.specs.Bindings.{names_of}
+use Rattle.first_evaluator.specs.Values.{property_value}
 use Rattle.first_evaluator.specs.Live.{Live, Shows}
 use Rattle.first_evaluator.specs.Evaluated.{AreRight}
 use Rattle.first_evaluator.proofs.EvaluatedValues.{value_shown}

@@ -1,7 +1,7 @@
 use Rattle.std.proofs.Common.{◌≡◌, false, sym, ap, ◌∙◌}
 use mathlib.Core.List.{reverse}
-use Rattle.first_parser.specs.declared.trees.FirstFile.{FirstFile}
-use Rattle.slint_meaning.specs.Sources.{has_name, names_of}
+use Rattle.first_evaluator.specs.declared.trees.FirstFile.{FirstFile}
+use Rattle.first_evaluator.specs.Bindings.{has_name, names_of}
 use Rattle.first_evaluator.specs.Resolved.{place_among}
 use Rattle.first_evaluator.proofs.ResolvedSums.{placed, placed_within}
 use Rattle.first_evaluator.proofs.resolving.Component.place_of.Goals as goal

@@ -1,6 +1,6 @@
 use Rattle.std.proofs.Common.{[], length, get_or, ap, ◌∙◌, arith}
 use Rattle.std.proofs.lemmas.List.{get_or_read_under}
-use Rattle.first_parser.specs.declared.trees.FirstFile.{FirstFile}
+use Rattle.first_evaluator.specs.declared.trees.FirstFile.{FirstFile}
 use Rattle.first_evaluator.proofs.ResolvedSums.{length-sums_behind, bound_from_sums, sums_of-resolved}
 use Rattle.first_evaluator.proofs.resolving.Component.sum_at.Goals as goal
 
