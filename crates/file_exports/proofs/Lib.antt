@@ -1,0 +1,2 @@
+pub mod AddedNames
+pub mod Places

@@ -1,0 +1,18 @@
+use Rattle.std.proofs.Common.{◌+◌, drop}
+use Rattle.file_exports.specs.Imports.{exported_among, exported_by}
+use Rattle.file_exports.specs.Roots.{has_name}
+use Rattle.file_exports.proofs.AddedNames.{completes-empty, completes-step, completes-all, exported-at, exported-end}
+use Rattle.file_exports.proofs.names.exported_names.Goals as goal
+
+pub loop-item-init : goal.loop-item-init
+loop-item-init c = completes-empty c.new-names.result (exported_among c.args.items.now) c.new-names.ensures.empty
+
+pub loop-item-preserved : goal.loop-item-preserved
+loop-item-preserved c =
+    completes-step c.loop-item.names c.add_exported.new.names (exported_among (drop c.loop-item.item-index c.args.items.now)) (exported_by c.item-item.result) (exported_among (drop (c.loop-item.item-index + 1) c.args.items.now))
+    (has_name (exported_among c.args.items.now)) (exported-at c.args.items.now c.loop-item.item-index c.item-item.result c.loop-item-test.true c.item-item.is) c.in_ok-add_exported.ensures c.loop-item.invariant
+
+pub returns : goal.returns
+returns c =
+    completes-all c.loop-item.names (exported_among (drop c.loop-item.item-index c.args.items.now)) (has_name (exported_among c.args.items.now))
+    (exported-end c.args.items.now c.loop-item.item-index c.loop-item-test.false) c.loop-item.invariant
