@@ -8,35 +8,36 @@ use slint_meaning::Ending;
 use std::alloc::{AllocError, Global};
 use std::test::Fail;
 
-const DONE: Status = Status::Ended(Ending::Done);
+pub(crate) const DONE: Status = Status::Ended(Ending::Done);
 
-const REFUSED: Status = Status::Ended(Ending::Refused);
+pub(crate) const REFUSED: Status = Status::Ended(Ending::Refused);
 
-/// What a run is given: the words behind the program's name, the main file's text, the script, the most bytes that a call
-/// moves, and the numbers of the calls that fail.
+/// What a run is given: the words behind the program's name, the text of `main.slint`, the other files by their names, the script, the
+/// most bytes that a call moves, and the numbers of the calls that fail.
 #[derive(Drop)]
-struct Given<'w, 'm, 's> {
-    words: &'w [&'static str],
-    source: Option<&'m str>,
-    script: &'s [u8],
-    piece: usize,
-    files_fail: Vec<u64>,
-    script_fail: Vec<u64>,
-    out_fail: Vec<u64>,
+pub(crate) struct Given<'w, 'm, 's> {
+    pub(crate) words: &'w [&'static str],
+    pub(crate) source: Option<&'m str>,
+    pub(crate) others: Vec<(String, Vec<u8>)>,
+    pub(crate) script: &'s [u8],
+    pub(crate) piece: usize,
+    pub(crate) files_fail: Vec<u64>,
+    pub(crate) script_fail: Vec<u64>,
+    pub(crate) out_fail: Vec<u64>,
 }
 
 /// What a run came to: its status, the bytes that were taken, and the bytes of the script that are left.
 #[derive(Debug, Drop)]
-struct Came {
-    status: Status,
-    bytes: Vec<u8>,
-    left: usize,
-    misses: u64,
+pub(crate) struct Came {
+    pub(crate) status: Status,
+    pub(crate) bytes: Vec<u8>,
+    pub(crate) left: usize,
+    pub(crate) misses: u64,
 }
 
 impl<'w, 'm, 's> Given<'w, 'm, 's> {
     /// A run in which no call fails.
-    fn quiet(
+    pub(crate) fn quiet(
         alloc: Global,
         words: &'w [&'static str],
         source: Option<&'m str>,
@@ -45,6 +46,7 @@ impl<'w, 'm, 's> Given<'w, 'm, 's> {
         Given {
             words,
             source,
+            others: Vec::new(alloc),
             script,
             piece: 4096,
             files_fail: Vec::new(alloc),
@@ -53,12 +55,17 @@ impl<'w, 'm, 's> Given<'w, 'm, 's> {
         }
     }
 
-    fn run(self, alloc: Global) -> Result<Came, AllocError> {
+    pub(crate) fn run(self, alloc: Global) -> Result<Came, AllocError> {
         let mut words = vec![in alloc; String::from_str(alloc, "slintrun")?]?;
         for word in self.words {
             words.push(String::from_str(alloc, word)?)?;
         }
-        let mut held = Vec::new(alloc);
+        self.run_words(alloc, words)
+    }
+
+    /// The same with these words, the first of which is the program's own name.
+    pub(crate) fn run_words(self, alloc: Global, words: Vec<String>) -> Result<Came, AllocError> {
+        let mut held = self.others;
         if let Some(source) = self.source {
             let bytes = Vec::from_slice(alloc, source.as_bytes())?;
             held.push((String::from_str(alloc, "main.slint")?, bytes))?;
@@ -183,7 +190,7 @@ fn judges_sources(rt: HostRuntime) -> Result<(), Fail> {
             &["main.slint"],
             Some(""),
             REFUSED,
-            "refused 90 main.slint 1:1-1:1\n",
+            "refused 38 main.slint 1:1-1:1\n",
         ),
         (
             &["main.slint"],

@@ -1,47 +1,137 @@
--- What the bytes of a file read as, and the verdict, from what was lexed, parsed and resolved of them.
-use Rattle.std.proofs.Common.{◌≡◌, ℕ, ◌<◌, ◌≤◌, List, length, Some, None, Option, Result, Ok, Err, refl, sym, ap, ◌∙◌, subst}
-use Rattle.slint_base.specs.declared.endings.End.{End}
-use Rattle.slint_base.specs.declared.endings.End.TheVariants as ends
-use Rattle.slint_base.specs.declared.faults.Fault.{Fault}
-use Rattle.slint_base.specs.declared.rules.Rule.TheVariants.{FileTooLong, NotBuilt}
-use Rattle.slint_base.specs.Refusals.{at_start}
-use Rattle.slint_lexer.specs.declared.tokens.Token.{Token}
-use Rattle.slint_lexer.specs.Lexing.{IsLexing, EndsLexing}
+-- The verdict on a source, from its load and from what its main file is.
+use Rattle.std.proofs.Common.{◌≡◌, ◌↔◌, ℕ, zero, suc, ◌<◌, Bool, true, false, List, [], ◌∷◌, length, Option, None, Some, Result, Ok, Err, refl, sym, ap, ◌∙◌, subst, arith}
+use Rattle.std.specs.Prelude.{if◌then◌else◌, IsTrue}
+use Rattle.slint_base.specs.declared.refusals.Refusal.{Refusal}
+use Rattle.slint_base.specs.declared.rules.Rule.{Rule}
+use Rattle.slint_base.specs.declared.rules.Rule.TheVariants.{NoComponent, NotBuilt, FileMissing}
+use Rattle.io_edge.specs.Files.{FileList, bytes_named}
+use Rattle.command_words.specs.Words.{WordsOf}
 use Rattle.syntax_tree.specs.declared.files.File.{File}
-use Rattle.slint_grammar.specs.Faults.{Parses}
+use Rattle.file_exports.specs.Roots.{root_place}
+use Rattle.import_resolver.specs.declared.ends.LoadEnd.{LoadEnd}
+use Rattle.import_resolver.specs.declared.ends.LoadEnd.TheVariants as ends
+use Rattle.import_resolver.specs.declared.loaded.Loaded.{Loaded}
+use Rattle.import_resolver.specs.Ends.{IsRefusal, LoadCount}
+use Rattle.import_resolver.specs.Loaded.{FileRow, LoadsSome, ShowFiles, rows_of}
+use Rattle.import_resolver.specs.Loads.{World, Seen, State, Goes, Stops, LoadsMain}
 use Rattle.first_evaluator.specs.declared.trees.FirstFile.{FirstFile}
 use Rattle.first_evaluator.specs.First.{first_source}
-use Rattle.slint_meaning.specs.Runs.{main_file, accepted, rejected, first_verdict}
-use Rattle.slint_meaning.specs.Sources.{IsRead, too_long, no_tokens, no_tree, reads, most_bytes}
-use Rattle.slint_cli.specs.Verdicts.{Judges, ReadsAs}
+use Rattle.slint_meaning.specs.Runs.{Verdict, accepted, rejected, at_main, first_alone, if_first, if_rooted, of_files}
+use Rattle.slint_cli.specs.Verdicts.{Judges, JudgesIn, Says}
 
--- a file that is too long
-pub read_too_long : (file : ℕ) (bytes : List ℕ) (fault : Fault) → most_bytes < length bytes → fault ≡ at_start FileTooLong file → IsRead file bytes (Err fault)
-read_too_long file bytes fault long e = subst (λ (f : Fault). IsRead file bytes (Err f)) (sym e) (too_long long)
+-- ---- answers on a main file's tree
 
--- how lexing ended
-pub read_unlexed : (file : ℕ) (bytes : List ℕ) (end : End Fault) → length bytes ≤ most_bytes → EndsLexing file bytes end → ReadsAs file bytes (Err end)
-read_unlexed file bytes (ends.Fault fault) short h = no_tokens fault short h.faulted
-read_unlexed file bytes ends.Memory short h = tt
+says_refused : (refusal : Refusal) (end : LoadEnd) → IsRefusal refusal end → Says (rejected refusal) (Err end)
+says_refused refusal (ends.Refused told) h = ap (λ r. rejected r) (sym h)
+says_refused refusal ends.ReadFault h = absurd h
+says_refused refusal ends.Memory h = tt
 
--- how parsing ended
-read_by : (file len : ℕ) (bytes : List ℕ) (tokens : List Token) (answer : Result File (End Fault)) → length bytes ≤ most_bytes → len ≡ length bytes → IsLexing file bytes tokens → Parses file len tokens answer → ReadsAs file bytes answer
-read_by file len bytes tokens (Ok tree) short l lexed h = reads tokens tree short lexed h
-read_by file len bytes tokens (Err (ends.Fault fault)) short l lexed h = no_tree tokens fault short lexed (subst (λ (n : ℕ). Parses file n tokens (Err (ends.Fault fault))) l h)
-read_by file len bytes tokens (Err ends.Memory) short l lexed h = tt
+-- a tree of the first language
+pub says_first : (main : List ℕ) (first : Option FirstFile) (found : Option FirstFile) (file : FirstFile) → found ≡ first → found ≡ Some file → Says (if_first main first) (Ok file)
+says_first main first found file e some = ap (λ f. if_first main f) (sym e ∙ some)
 
-pub read_lexed : (file len : ℕ) (bytes : List ℕ) (tokens given : List Token) (answer : Result File (End Fault)) → length bytes ≤ most_bytes → len ≡ length bytes → IsLexing file bytes tokens → given ≡ tokens → Parses file len given answer → ReadsAs file bytes answer
-read_lexed file len bytes tokens given answer short l lexed same h = read_by file len bytes tokens answer short l lexed (subst (λ (ts : List Token). Parses file len ts answer) same h)
+-- and any other
+pub says_other : (main : List ℕ) (first : Option FirstFile) (found : Option FirstFile) (end : LoadEnd) → found ≡ first → found ≡ None → IsRefusal (at_main NotBuilt main) end → Says (if_first main first) (Err end)
+says_other main first found end e none h =
+    let P : Option FirstFile → Type 0 = λ f. Says (if_first main f) (Err end) in
+    subst P (sym none ∙ e) (says_refused (at_main NotBuilt main) end h)
 
--- a main file that has no tree
-pub judged_unread : (bytes : List ℕ) (end : End Fault) → ReadsAs main_file bytes (Err end) → Judges (Some bytes) (Err end)
-judged_unread bytes (ends.Fault fault) h = (Err fault, h, refl)
-judged_unread bytes ends.Memory h = tt
+-- a main file that has its root
+pub says_rooted : (main : List ℕ) (place root : Option ℕ) (here : ℕ) (first : Option FirstFile) (result : Result FirstFile LoadEnd) → root ≡ place → root ≡ Some here → Says (if_first main first) result → Says (if_rooted main place first) result
+says_rooted main place root here first result e some h =
+    let P : Option ℕ → Type 0 = λ p. Says (if_rooted main p first) result in
+    subst P (sym some ∙ e) h
 
--- one whose tree is of the first language
-pub judged_first : (bytes : List ℕ) (tree : File) (found : Option FirstFile) (file : FirstFile) → IsRead main_file bytes (Ok tree) → found ≡ first_source tree → found ≡ Some file → Judges (Some bytes) (Ok file)
-judged_first bytes tree found file read e some = (Ok tree, read, ap first_verdict (sym some ∙ e))
+-- and one that has none
+pub says_rootless : (main : List ℕ) (place root : Option ℕ) (first : Option FirstFile) (end : LoadEnd) → root ≡ place → root ≡ None → IsRefusal (at_main NoComponent main) end → Says (if_rooted main place first) (Err end)
+says_rootless main place root first end e none h =
+    let P : Option ℕ → Type 0 = λ p. Says (if_rooted main p first) (Err end) in
+    subst P (sym none ∙ e) (says_refused (at_main NoComponent main) end h)
 
--- and one whose tree isn't
-pub judged_other : (bytes : List ℕ) (tree : File) (found : Option FirstFile) (fault : Fault) → IsRead main_file bytes (Ok tree) → found ≡ first_source tree → found ≡ None → fault ≡ at_start NotBuilt main_file → Judges (Some bytes) (Err (ends.Fault fault))
-judged_other bytes tree found fault read e none is = (Ok tree, read, ap (λ f. rejected f) is ∙ ap first_verdict (sym none ∙ e))
+-- a refusal of the source as a whole is none for a missing file
+pub refused_still : (rule : Rule) (main : List ℕ) (end : LoadEnd) → (rule ≡ FileMissing → ⊥) → IsRefusal (at_main rule main) end → (faults misses : ℕ) → LoadCount {A = FirstFile} (Err end) faults faults misses misses
+refused_still rule main (ends.Refused told) other h faults misses = (refl, λ e. absurd (other (ap (λ (r : Refusal). r.rule) (sym h) ∙ e)))
+refused_still rule main ends.ReadFault other h faults misses = absurd h
+refused_still rule main ends.Memory other h faults misses = refl
+
+-- ---- answers on loaded files
+
+-- as many files are shown as there are
+same_count : (main : List ℕ) (all seen : List Seen) (rows : List FileRow) → ShowFiles main all seen rows → length rows ≡ length seen
+same_count main all [] [] shows = refl
+same_count main all (file ∷ seen) (row ∷ rows) shows = let rest = same_count main all seen rows shows.1 in omega (arith, rest)
+same_count main all [] (row ∷ rows) shows = absurd shows
+same_count main all (file ∷ seen) [] shows = absurd shows
+
+-- by whether there are other files
+alone_first : (tree : File) (others : List Seen) (alone : Bool) → (IsTrue alone ↔ (length others ≡ 0)) → (if alone then first_source tree else None) ≡ first_alone tree others
+alone_first tree [] true is = refl
+alone_first tree [] false is = let no = is.1 refl in absurd cc
+alone_first tree (other ∷ others) true is = let no = is.0 refl in absurd (omega arith)
+alone_first tree (other ∷ others) false is = refl
+
+-- the files that rows show, where the first row's tree is the main file's
+pub says_shown : (main : List ℕ) (named : Option (List ℕ)) (all seen : List Seen) (row : FileRow) (rest : List FileRow) (alone : Bool) (result : Result FirstFile LoadEnd)
+    → (IsTrue alone ↔ (length rest ≡ 0))
+    → Says (if_rooted main (root_place named row.tree.items) (if alone then first_source row.tree else None)) result
+    → ShowFiles main all seen (row ∷ rest) → Says (of_files main named seen) result
+says_shown main named all [] row rest alone result is says shows = absurd shows
+says_shown main named all (file ∷ others) row rest alone result is says shows =
+    let count = same_count main all others rest shows.1 in
+    let first = alone_first row.tree others alone ((λ t. sym count ∙ is.0 t), (λ e. is.1 (count ∙ e))) in
+    let P : Option FirstFile → Type 0 = λ f. Says (if_rooted main (root_place named row.tree.items) f) result in
+    let Q : File → Type 0 = λ t. Says (if_rooted main (root_place named t.items) (first_alone t others)) result in
+    subst Q shows.0.tree (subst P first says)
+
+-- what isn't above 0
+pub none_by : (n : ℕ) → (0 < n → false ≡ true) → n ≡ 0
+none_by zero some = refl
+none_by (suc n) some = let no = some (omega arith) in absurd cc
+
+-- no rows show no files
+pub says_none : (main : List ℕ) (named : Option (List ℕ)) (all seen : List Seen) (rows : List FileRow) (end : LoadEnd) → length rows ≡ 0 → IsRefusal (at_main NoComponent main) end
+    → ShowFiles main all seen rows → Says (of_files main named seen) (Err end)
+says_none main named all [] rows end none h shows = says_refused (at_main NoComponent main) end h
+says_none main named all (file ∷ files) [] end none h shows = absurd shows
+says_none main named all (file ∷ files) (row ∷ rows) end none h shows = absurd (omega arith)
+
+-- ---- answers on a source
+
+judged_loaded : (w : World) (words : WordsOf) (s : State) (result : Result FirstFile LoadEnd) → LoadsMain w words.file (Goes s) → Says (of_files words.file words.component s.seen) result → JudgesIn w words result
+judged_loaded w words s (Ok file) loads says = (Goes s, loads, sym says)
+judged_loaded w words s (Err (ends.Refused refusal)) loads says = (Goes s, loads, sym says)
+judged_loaded w words s (Err ends.ReadFault) loads says = tt
+judged_loaded w words s (Err ends.Memory) loads says = tt
+
+-- one that is loaded
+pub judges_loaded : (held : Option FileList) (name : List ℕ) (words : WordsOf) (loaded : Loaded) (result : Result FirstFile LoadEnd) → name ≡ words.file → LoadsSome held name (Ok loaded)
+    → ((seen : List Seen) → ShowFiles words.file seen seen (rows_of loaded) → Says (of_files words.file words.component seen) result) → Judges held words result
+judges_loaded held name words loaded result same loads says =
+    let P : List ℕ → Type 0 = λ n. LoadsSome held n (Ok loaded) in
+    let found = subst P same loads in
+    (found.0, found.1, judged_loaded (bytes_named found.0) words found.2.0 result found.2.1 (says found.2.0.seen found.2.2))
+
+-- and one that isn't
+judges_end : (held : Option FileList) (words : WordsOf) (end : LoadEnd) → LoadsSome held words.file (Err end) → Judges held words (Err end)
+judges_end held words (ends.Refused refusal) loads = (loads.0, loads.1, (Stops refusal, loads.2, refl))
+judges_end held words ends.ReadFault loads = (loads.0, loads.1, tt)
+judges_end held words ends.Memory loads = (loads.0, loads.1, tt)
+
+pub judges_stopped : (held : Option FileList) (name : List ℕ) (words : WordsOf) (end : LoadEnd) → name ≡ words.file → LoadsSome held name (Err end) → Judges held words (Err end)
+judges_stopped held name words end same loads =
+    let P : List ℕ → Type 0 = λ n. LoadsSome held n (Err end) in
+    judges_end held words end (subst P same loads)
+
+-- a load that goes on moves no count
+pub counted_loaded : (result : Result FirstFile LoadEnd) (faults faults_now misses misses_now : ℕ) → faults_now ≡ faults → misses_now ≡ misses
+    → ((f m : ℕ) → LoadCount result f f m m) → LoadCount result faults faults_now misses misses_now
+counted_loaded result faults faults_now misses misses_now same_faults same_misses still =
+    let P : ℕ → Type 0 = λ n. LoadCount result faults n misses misses in
+    let Q : ℕ → Type 0 = λ n. LoadCount result faults faults_now misses n in
+    subst Q (sym same_misses) (subst P (sym same_faults) (still faults misses))
+
+-- the counts of a load that ends, whatever it would give otherwise
+pub counted_stopped : (end : LoadEnd) (faults faults_now misses misses_now : ℕ) → LoadCount {A = Loaded} (Err end) faults faults_now misses misses_now → LoadCount {A = FirstFile} (Err end) faults faults_now misses misses_now
+counted_stopped (ends.Refused refusal) faults faults_now misses misses_now h = h
+counted_stopped ends.ReadFault faults faults_now misses misses_now h = h
+counted_stopped ends.Memory faults faults_now misses misses_now h = h

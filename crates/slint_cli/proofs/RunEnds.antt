@@ -1,10 +1,11 @@
 -- How a run ends, from what its parts answered.
 use Rattle.std.proofs.Common.{◌≡◌, ℕ, List, ◌++◌, refl, sym, subst, append-nil, Option, None, Some, Err}
+use Rattle.std.specs.Prelude.{codes}
 use Rattle.std.specs.Io.KnownBytes.{Appends}
 use Rattle.std.proofs.lemmas.List.{append_cancel_left}
 use Rattle.io_edge.specs.Counts.{Rose}
 use Rattle.io_edge.specs.Files.{FileList}
-use Rattle.slint_meaning.specs.Runs.{Outcome, Runs, missing_line}
+use Rattle.slint_meaning.specs.Runs.{Outcome, Runs}
 use Rattle.io_edge.specs.Streams.{TakesFront}
 use Rattle.slint_meaning.specs.declared.endings.Ending.TheVariants.{Refused}
 use Rattle.slint_cli.specs.declared.replies.Output.{Output}
@@ -14,8 +15,8 @@ use Rattle.slint_cli.specs.declared.status.Stop.{Stop}
 use Rattle.slint_cli.specs.declared.status.Stop.TheVariants.{Memory, ReadFault, SinkFault}
 use Rattle.slint_cli.specs.Statuses.{EndsAs, EndsAsTold, FaultsFit, Writes}
 use Rattle.slint_cli.specs.Outputs.{outcome_of}
-use Rattle.slint_cli.specs.Running.{MissedWords, ReadsFit}
-use Rattle.slint_cli.proofs.FilesFound.{some_files, some_script}
+use Rattle.slint_cli.specs.Running.{MissedFile, ReadsFit}
+use Rattle.slint_cli.proofs.Sources.{some_files, some_script}
 
 -- each run has an outcome
 abbrev pub SomeOutcome : Type 0
@@ -46,14 +47,13 @@ stopped_fits ReadFault files files_now script script_now out fits = (fits, refl)
 stopped_fits SinkFault files files_now script script_now out fits = absurd fits
 
 -- the line of a missing file was made where it was written
-pub missed_written : (word : Option (List ℕ)) (status : Status) (output : Output) (taken now : Option (List ℕ)) (misses misses_now : ℕ) (name before : List ℕ)
-    → MissedWords word misses misses_now output → Writes status (outcome_of output) taken now
-    → word ≡ Some name → status ≡ Ended Refused → taken ≡ Some before → now ≡ Some (before ++ missing_line name) → Rose misses misses_now
-missed_written word status output taken now misses misses_now name before missed writes named refused had has =
-    let M : Option (List ℕ) → Type 0 = λ w. MissedWords w misses misses_now output in
+pub missed_written : (status : Status) (output : Output) (taken now : Option (List ℕ)) (misses misses_now : ℕ) (before line : List ℕ)
+    → MissedFile misses misses_now output → Writes status (outcome_of output) taken now
+    → status ≡ Ended Refused → taken ≡ Some before → now ≡ Some (before ++ (codes "refused 20 " ++ line)) → Rose misses misses_now
+missed_written status output taken now misses misses_now before line missed writes refused had has =
     let W : Status → Type 0 = λ s. Writes s (outcome_of output) taken now in
     let A : Option (List ℕ) → Type 0 = λ t. Appends t now output.bytes.items in
     let B : Option (List ℕ) → Type 0 = λ t. Appends (Some before) t output.bytes.items in
     let written = subst W refused writes in
     let grown = subst B has (subst A had written.1) in
-    subst M named missed written.0 (sym (append_cancel_left before (missing_line name) output.bytes.items grown))
+    missed line written.0 (sym (append_cancel_left before (codes "refused 20 " ++ line) output.bytes.items grown))

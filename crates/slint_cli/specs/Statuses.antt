@@ -1,12 +1,16 @@
 -- How a status, the bytes taken and the counts of the outside stand to the outcome of a run.
-use Rattle.std.specs.Prelude.{◌≡◌, ℕ, ◌⊎◌, ⊤, List, ◌++◌, Option, None, Some}
+use Rattle.std.specs.Prelude.{◌≡◌, ℕ, ◌⊎◌, ⊤, List, ◌++◌, codes, Option, Some}
 use Rattle.std.specs.Io.KnownBytes.{Appends}
 use Rattle.io_edge.specs.Counts.{Rose}
 use Rattle.io_edge.specs.Files.{FileList, bytes_named}
 use Rattle.io_edge.specs.Streams.{TakesFront}
 use Rattle.slint_meaning.specs.declared.endings.Ending.TheVariants.{Refused}
 use Rattle.slint_meaning.specs.Endings.{ending_number}
-use Rattle.slint_meaning.specs.Runs.{Outcome, Runs, file_word, missing_line}
+use Rattle.slint_base.specs.declared.refusals.Refusal.{Refusal}
+use Rattle.slint_base.specs.declared.rules.Rule.TheVariants.{FileMissing}
+use Rattle.command_words.specs.Words.{WordsOf, words_of}
+use Rattle.import_resolver.specs.Loads.{Stops, LoadsMain}
+use Rattle.slint_meaning.specs.Runs.{Outcome, Runs}
 use Rattle.slint_cli.specs.Running.{TakenAt, TakesSome, Tells}
 use Rattle.slint_cli.specs.declared.status.Status.{Status}
 use Rattle.slint_cli.specs.declared.status.Status.TheVariants.{Ended, Stopped}
@@ -44,15 +48,16 @@ pub record EndsAsTold (ws : List (List ℕ)) (held : Option FileList) (left : Op
   pub script_told : Tells left script
   pub ends : EndsAs ws files script status taken now
 
--- the line of a missing file was written only where the count of misses rose
-abbrev pub MissedWhereRefused : List (List ℕ) → Status → Option (List ℕ) → Option (List ℕ) → ℕ → ℕ → Type 0
-MissedWhereRefused ws status taken now misses misses_now = (name before : List ℕ) → file_word ws ≡ Some name → status ≡ Ended Refused
-    → taken ≡ Some before → now ≡ Some (before ++ missing_line name) → Rose misses misses_now
+-- a refusal for a missing file, which its line tells by its rule, was written only where the count of misses rose, whichever file it was
+abbrev pub MissedWhereRefused : Status → Option (List ℕ) → Option (List ℕ) → ℕ → ℕ → Type 0
+MissedWhereRefused status taken now misses misses_now = (before line : List ℕ) → status ≡ Ended Refused
+    → taken ≡ Some before → now ≡ Some (before ++ (codes "refused 20 " ++ line)) → Rose misses misses_now
 
--- and where files are told that lack the main file, a refusal came only where it rose, whatever is known of the bytes taken
+-- and where files are told by which the source is refused for a missing file, such a refusal came only where it rose, whatever is known of
+-- the bytes taken
 abbrev pub MissedWhereNone : List (List ℕ) → Option FileList → Status → ℕ → ℕ → Type 0
-MissedWhereNone ws held status misses misses_now = (files : FileList) (name : List ℕ) → held ≡ Some files → file_word ws ≡ Some name
-    → bytes_named files name ≡ None → status ≡ Ended Refused → Rose misses misses_now
+MissedWhereNone ws held status misses misses_now = (files : FileList) (words : WordsOf) (refusal : Refusal) → held ≡ Some files → words_of ws ≡ Some words
+    → LoadsMain (bytes_named files) words.file (Stops refusal) → refusal.rule ≡ FileMissing → status ≡ Ended Refused → Rose misses misses_now
 
 -- each count of failures before and now: of the files, the script and the written bytes
 pub record Faults : Type 0 where

@@ -1,17 +1,22 @@
-ghost use Rattle.std.specs.Prelude.{◌≡◌, ◌==◌, ◌<◌, ◌-◌, ◌^◌, None, Some, IfOk, OnOk, MatchOption, length, map, slice_index, string_bytes};
-ghost use Rattle.slint_meaning.specs.Runs.{file_word, unreadable, verdict_line};
+ghost use Rattle.std.specs.Prelude.{◌≡◌, Some, IfOk, OnOk, map, string_bytes};
+ghost use Rattle.slint_base.specs.Refusals.{refusal_line};
 ghost use Rattle.io_edge.specs.Counts.{IsQuiet};
-ghost use Rattle.slint_cli.specs.Outputs.{outcome_of};
+ghost use Rattle.command_words.specs.Words.{words_of, words_seen};
+ghost use Rattle.slint_meaning.specs.Commands.{written};
+ghost use Rattle.slint_meaning.specs.Runs.{unreadable};
 ghost use Rattle.slint_meaning.specs.declared.endings.Ending.TheVariants.{Refused};
-ghost use Rattle.slint_cli.specs.Running.{MissedFile, MissedWhereAbsent, MissedWords, RanFile, RanScript, ReadsFit, ScriptFits, TakenBy};
+ghost use Rattle.slint_cli.specs.Outputs.{outcome_of};
+ghost use Rattle.slint_cli.specs.Running.{MissedFile, MissedWhereMissing, RanScript, RanWords, ReadsFit, ScriptFits, TakenBy};
 
 use crate::judging::judge;
 use crate::replies::{MOST_SCRIPT, Output, run_script};
 use crate::status::Stop;
+use command_words::{Words, read_words};
 use first_evaluator::Component;
-use io_edge::{Files, Found, Source, take_up_to};
-use slint_base::{End, Fault, Memory, Refusal, Rule, at_start};
-use slint_meaning::{Ending, MAIN_FILE, reading_rules};
+use import_resolver::{LoadEnd, one_outcome};
+use io_edge::{Files, Source, take_up_to};
+use slint_base::{Memory, Refusal};
+use slint_meaning::Ending;
 use std::alloc::Global;
 
 /// The outcome of a component over a script, which is taken whole before its first line runs.
@@ -31,60 +36,40 @@ fn run_component<S: Source>(
     Ok(outcome)
 }
 
-/// The outcome of a source that is refused for a fault in a file of this name and these bytes.
-fn refuse(alloc: Global, name: &str, bytes: &[u8], fault: Fault) -> Result<Output, Memory>
-    requires { length bytes.now < 2 ^ 32 - 1 }
-    ensures { IfOk result (λ output. outcome_of output ≡ record { end = Refused; bytes = verdict_line name.now bytes.now fault }) }
+/// The outcome of a source that is refused.
+fn refuse(alloc: Global, refusal: &Refusal) -> Result<Output, Memory>
+    ensures { IfOk result (λ output. outcome_of output ≡ record { end = Refused; bytes = written (refusal_line refusal.now) }) }
 {
-    let line = Refusal::of_fault(alloc, name, bytes, fault)?.line(alloc)?;
+    let line = refusal.line(alloc)?;
     let mut bytes = Vec::from_slice(alloc, line.as_bytes())?;
     bytes.push(b'\n')?;
     let end = Ending::Refused;
     Ok(Output { end, bytes })
 }
 
-/// The outcome of a main file over the files and the script.
-fn run_file<F: Files, S: Source>(
+/// The outcome of what the words say over the files and the script.
+fn run_source<F: Files, S: Source>(
     alloc: Global,
-    name: &str,
+    words: &Words,
     files: &mut F,
     script: &mut S,
 ) -> Result<Output, Stop>
-    ensures ran { IfOk result (λ output. RanFile (Some name.now) (F.held files.old) (S.left script.old) (outcome_of output)) }
-    ensures missed { IfOk result (MissedFile name.now (F.misses files.old) (F.misses files.new)) }
-    ensures absent { OnOk result (MissedWhereAbsent (Some name.now) (F.held files.old) (F.misses files.old) (F.misses files.new)) }
+    ensures ran { IfOk result (λ output. RanWords (Some (words_seen words.now)) (F.held files.old) (S.left script.old) (outcome_of output)) }
+    ensures missed { IfOk result (MissedFile (F.misses files.old) (F.misses files.new)) }
+    ensures missing { OnOk result (MissedWhereMissing (Some (words_seen words.now)) (F.held files.old) (F.misses files.old) (F.misses files.new)) }
     ensures took { TakenBy result (S.left script.old) (S.left script.new) }
     ensures counted { ReadsFit result (F.faults files.old) (F.faults files.new) (S.faults script.old) (S.faults script.new) }
     ensures same_map { F.held files.new ≡ F.held files.old }
     ensures files_steady { F.is_steady files.old → IsQuiet (F.is_steady files.new) (F.faults files.old) (F.faults files.new) }
     ensures script_steady { S.is_steady script.old → IsQuiet (S.is_steady script.new) (S.faults script.old) (S.faults script.new) }
 {
-    // The fault of a file that is there is never that of a missing one.
-    reading_rules();
-    match files.read(alloc, name)? {
-        Found::Missing => Ok(refuse(alloc, name, b"", at_start(Rule::FileMissing, MAIN_FILE))?),
-        Found::Bytes(bytes) => match judge(alloc, &bytes) {
-            Ok(component) => run_component(alloc, component, script),
-            Err(End::Fault(fault)) => Ok(refuse(alloc, name, &bytes, fault)?),
-            Err(End::Memory) => Err(Stop::Memory),
-        },
-    }
-}
-
-/// Whether a word of the command line is an option and no file's name.
-fn is_option(word: &str) -> bool
-    ensures { result ≡ (slice_index word.now 0 == 45) }
-{
-    matches!(word.as_bytes(), [b'-', ..])
-}
-
-/// The main file's name: the words are the program's name and that name, which is no option.
-fn file_of(words: &[String]) -> Option<&str>
-    ensures { MatchOption result (file_word (map string_bytes words.now) ≡ None) (λ name. file_word (map string_bytes words.now) ≡ Some name.now) }
-{
-    match words {
-        [_program, name] if !is_option(name.as_str()) => Some(name.as_str()),
-        _ => None,
+    // A load that comes to the refusal for a missing file comes to nothing else.
+    one_outcome();
+    match judge(alloc, files, words) {
+        Ok(component) => run_component(alloc, component, script),
+        Err(LoadEnd::Refused(refusal)) => Ok(refuse(alloc, &refusal)?),
+        Err(LoadEnd::ReadFault) => Err(Stop::ReadFault),
+        Err(LoadEnd::Memory) => Err(Stop::Memory),
     }
 }
 
@@ -104,17 +89,18 @@ pub(crate) fn run_words<F: Files, S: Source>(
     files: &mut F,
     script: &mut S,
 ) -> Result<Output, Stop>
-    ensures ran { IfOk result (λ output. RanFile (file_word (map string_bytes words.now)) (F.held files.old) (S.left script.old) (outcome_of output)) }
-    ensures missed { IfOk result (MissedWords (file_word (map string_bytes words.now)) (F.misses files.old) (F.misses files.new)) }
-    ensures absent { OnOk result (MissedWhereAbsent (file_word (map string_bytes words.now)) (F.held files.old) (F.misses files.old) (F.misses files.new)) }
+    ensures ran { IfOk result (λ output. RanWords (words_of (map string_bytes words.now)) (F.held files.old) (S.left script.old) (outcome_of output)) }
+    ensures missed { IfOk result (MissedFile (F.misses files.old) (F.misses files.new)) }
+    ensures missing { OnOk result (MissedWhereMissing (words_of (map string_bytes words.now)) (F.held files.old) (F.misses files.old) (F.misses files.new)) }
     ensures took { TakenBy result (S.left script.old) (S.left script.new) }
     ensures counted { ReadsFit result (F.faults files.old) (F.faults files.new) (S.faults script.old) (S.faults script.new) }
     ensures same_map { F.held files.new ≡ F.held files.old }
     ensures files_steady { F.is_steady files.old → IsQuiet (F.is_steady files.new) (F.faults files.old) (F.faults files.new) }
     ensures script_steady { S.is_steady script.old → IsQuiet (S.is_steady script.new) (S.faults script.old) (S.faults script.new) }
 {
-    match file_of(words) {
-        Some(name) => run_file(alloc, name, files, script),
+    let found = read_words(alloc, words)?;
+    match found {
+        Some(named) => run_source(alloc, &named, files, script),
         None => Ok(unreadable(alloc)?),
     }
 }

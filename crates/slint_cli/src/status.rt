@@ -1,7 +1,7 @@
 ghost use Rattle.std.specs.Prelude.{◌≡◌};
 ghost use Rattle.slint_cli.specs.Statuses.{status_number, stop_number};
 
-use io_edge::{FilesEnd, SourceEnd};
+use io_edge::SourceEnd;
 use slint_base::Memory;
 use slint_meaning::Ending;
 use std::alloc::AllocError;
@@ -55,19 +55,6 @@ impl From<SourceEnd> for Stop {
         match end {
             SourceEnd::Failed => Stop::ReadFault,
             SourceEnd::Memory => Stop::Memory,
-        }
-    }
-}
-
-impl From<FilesEnd> for Stop {
-    ghost use Rattle.slint_cli.specs.Running.{stop_of_files};
-
-    ghost from_gives = { λ end stop. stop ≡ stop_of_files end };
-
-    fn from(end: FilesEnd) -> Stop {
-        match end {
-            FilesEnd::Failed => Stop::ReadFault,
-            FilesEnd::Memory => Stop::Memory,
         }
     }
 }

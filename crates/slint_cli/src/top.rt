@@ -58,7 +58,7 @@ pub fn slint_run<F: Files, S: Source, K: Sink>(
       out = K.faults out.old;
       out_now = K.faults out.new;
     }) → IsOwnStatus result }
-    ensures missed { MissedWhereRefused (map string_bytes words.items) result (K.taken out.old) (K.taken out.new) (F.misses files.old) (F.misses files.new) }
+    ensures missed { MissedWhereRefused result (K.taken out.old) (K.taken out.new) (F.misses files.old) (F.misses files.new) }
     ensures missed_none { MissedWhereNone (map string_bytes words.items) (F.held files.old) result (F.misses files.old) (F.misses files.new) }
     ensures same_map { F.held files.new ≡ F.held files.old }
 

@@ -1,4 +1,3 @@
 pub mod Assignments
 pub mod Outcomes
-pub mod Readings
 pub mod Turns

@@ -3,4 +3,3 @@ pub mod Endings
 pub mod Laws
 pub mod Refusals
 pub mod Runs
-pub mod Sources

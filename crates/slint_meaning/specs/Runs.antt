@@ -1,10 +1,14 @@
 -- What a whole run writes and how it ends: a function of its words, the files and the script.
-use Rattle.std.specs.Prelude.{◌≡◌, ℕ, List, [], ◌∷◌, ◌++◌, take, length, ◌==◌, nat_le, if◌then◌else◌, codes, Option, None, Some, Result, Ok, Err, unwrap_or, slice_index}
-use Rattle.slint_base.specs.declared.faults.Fault.{Fault}
-use Rattle.slint_base.specs.declared.rules.Rule.TheVariants.{FileMissing, NotBuilt}
-use Rattle.slint_base.specs.Refusals.{at_start, refusal_line, refusal_of}
+use Rattle.std.specs.Prelude.{◌≡◌, ℕ, List, [], ◌∷◌, ◌++◌, take, length, nat_le, if◌then◌else◌, codes, Option, None, Some}
+use Rattle.slint_base.specs.declared.refusals.Refusal.{Refusal}
+use Rattle.slint_base.specs.declared.rules.Rule.{Rule}
+use Rattle.slint_base.specs.declared.rules.Rule.TheVariants.{NoComponent, NotBuilt}
+use Rattle.slint_base.specs.Refusals.{refusal_line}
 use Rattle.io_edge.specs.Files.{FileList, bytes_named}
+use Rattle.command_words.specs.Words.{WordsOf, words_of}
 use Rattle.syntax_tree.specs.declared.files.File.{File}
+use Rattle.file_exports.specs.Roots.{root_place}
+use Rattle.import_resolver.specs.Loads.{World as Files, Seen, Outcome as Load, Goes, Stops, LoadsMain, asked_first, refused}
 use Rattle.first_evaluator.specs.declared.trees.FirstFile.{FirstFile}
 use Rattle.first_evaluator.specs.First.{first_source}
 use Rattle.first_evaluator.specs.Values.{World, opening_world}
@@ -12,7 +16,6 @@ use Rattle.slint_meaning.specs.declared.endings.Ending.{Ending}
 use Rattle.slint_meaning.specs.declared.endings.Ending.TheVariants.{Done, Words, Refused, ScriptLong}
 use Rattle.slint_meaning.specs.Commands.{Turn, goes_on, halts, written, does_line}
 use Rattle.script_lines.specs.Lines.{lines_of, whole_lines}
-use Rattle.slint_meaning.specs.Sources.{IsRead}
 
 -- how a run ended by itself, and all that it wrote
 pub record Outcome : Type 0 where
@@ -52,60 +55,59 @@ run_script file script =
     then run_lines file opening_world (lines_of script) ended
     else run_lines file opening_world (whole_lines (take most_script script)) cut_off
 
--- whether a source is accepted, or the fault for which it is refused: a rule, and the stretch of a file that breaks it
+-- whether a source is accepted, or the refusal that is told
 pub data Verdict : Type 0 where
   accepted : FirstFile → Verdict
-  rejected : Fault → Verdict
+  rejected : Refusal → Verdict
 
--- the main file's number
-abbrev pub main_file : ℕ
-main_file = 0
+-- the refusal of a source as a whole: at the start of its main file
+abbrev pub at_main : Rule → List ℕ → Refusal
+at_main rule main = refused rule (asked_first main)
 
--- the verdict on a tree, by what it is in the language as far as it is built
-abbrev pub first_verdict : Option FirstFile → Verdict
-first_verdict None = rejected (at_start NotBuilt main_file)
-first_verdict (Some file) = accepted file
+-- the verdict on the main file's tree, by what it is in the language as far as it is built
+abbrev pub if_first : List ℕ → Option FirstFile → Verdict
+if_first main None = rejected (at_main NotBuilt main)
+if_first main (Some file) = accepted file
 
--- the verdict on a main file that reads as this
-abbrev pub verdict_of : Result File Fault → Verdict
-verdict_of (Ok tree) = first_verdict (first_source tree)
-verdict_of (Err fault) = rejected fault
+-- the same, where the place of the root among the main file's items is this; without a root the source is refused before
+abbrev pub if_rooted : List ℕ → Option ℕ → Option FirstFile → Verdict
+if_rooted main None first = rejected (at_main NoComponent main)
+if_rooted main (Some place) first = if_first main first
 
--- the verdict on the main file, given its bytes where there is such a file
-abbrev pub HasVerdict : Option (List ℕ) → Verdict → Type 0
-HasVerdict None verdict = verdict ≡ rejected (at_start FileMissing main_file)
-HasVerdict (Some bytes) verdict = (reading : Result File Fault) × IsRead main_file bytes reading × (verdict ≡ verdict_of reading)
+-- a main file's tree in the first language, which has one file
+abbrev pub first_alone : File → List Seen → Option FirstFile
+first_alone tree [] = first_source tree
+first_alone tree (other ∷ others) = None
 
--- the line of a source that is refused for a fault in a file of this name and these bytes
-abbrev pub verdict_line : List ℕ → List ℕ → Fault → List ℕ
-verdict_line name bytes fault = written (refusal_line (refusal_of name bytes fault))
+-- the verdict on loaded files, the first of which is the main one, where a component of this name may be asked for
+abbrev pub of_files : List ℕ → Option (List ℕ) → List Seen → Verdict
+of_files main named [] = rejected (at_main NoComponent main)
+of_files main named (file ∷ others) = if_rooted main (root_place named file.tree.items) (first_alone file.tree others)
 
--- the line of a main file that isn't there
-abbrev pub missing_line : List ℕ → List ℕ
-missing_line name = verdict_line name [] (at_start FileMissing main_file)
+-- the verdict on a source whose load comes to this
+abbrev pub verdict_of : List ℕ → Option (List ℕ) → Load → Verdict
+verdict_of main named (Goes s) = of_files main named s.seen
+verdict_of main named (Stops refusal) = rejected refusal
 
--- a run whose main file has this name, these bytes and this verdict
-abbrev pub run_verdict : List ℕ → List ℕ → Verdict → List ℕ → Outcome
-run_verdict name bytes (accepted file) script = run_script file script
-run_verdict name bytes (rejected fault) script = record { end = Refused; bytes = verdict_line name bytes fault }
+-- the verdict on the source of this main file, given the files that there are
+abbrev pub HasVerdict : Files → List ℕ → Option (List ℕ) → Verdict → Type 0
+HasVerdict w main named verdict = (o : Load) × LoadsMain w main o × (verdict ≡ verdict_of main named o)
 
--- the main file's name: the words are the program's name and that name, which doesn't begin with a dash
-abbrev pub file_word : List (List ℕ) → Option (List ℕ)
-file_word [] = None
-file_word (program ∷ []) = None
-file_word (program ∷ name ∷ []) = if slice_index name 0 == 45 then None else Some name
-file_word (program ∷ name ∷ other ∷ others) = None
+-- a run whose source has this verdict
+abbrev pub run_verdict : Verdict → List ℕ → Outcome
+run_verdict (accepted file) script = run_script file script
+run_verdict (rejected refusal) script = record { end = Refused; bytes = written (refusal_line refusal) }
 
 -- the words can't be read
 abbrev pub unreadable : Outcome
 unreadable = record { end = Words; bytes = written (codes "words") }
 
--- the run of a main file over files and script
-abbrev pub RunsFile : Option (List ℕ) → FileList → List ℕ → Outcome → Type 0
-RunsFile None files script outcome = outcome ≡ unreadable
-RunsFile (Some name) files script outcome =
-    (verdict : Verdict) × HasVerdict (bytes_named files name) verdict × (outcome ≡ run_verdict name (unwrap_or (bytes_named files name) []) verdict script)
+-- the run of what the words say over files and script
+abbrev pub RunsWords : Option WordsOf → FileList → List ℕ → Outcome → Type 0
+RunsWords None files script outcome = outcome ≡ unreadable
+RunsWords (Some words) files script outcome =
+    (verdict : Verdict) × HasVerdict (bytes_named files) words.file words.component verdict × (outcome ≡ run_verdict verdict script)
 
 -- this is the outcome of the words over files and script
 abbrev pub Runs : List (List ℕ) → FileList → List ℕ → Outcome → Type 0
-Runs ws files script outcome = RunsFile (file_word ws) files script outcome
+Runs ws files script outcome = RunsWords (words_of ws) files script outcome

@@ -1,17 +1,11 @@
-ghost use Rattle.std.specs.Prelude.{◌≡◌, ℕ, ℤ, List, [], ◌∷◌, ◌++◌, All, IsTrue, Result, Err};
-ghost use Rattle.slint_base.specs.declared.faults.Fault.{Fault as ItsFault};
-ghost use Rattle.syntax_tree.specs.declared.files.File.{File as SourceFile};
+ghost use Rattle.std.specs.Prelude.{◌≡◌, ℕ, ℤ, List, [], ◌∷◌, ◌++◌, All};
 ghost use Rattle.first_evaluator.specs.declared.trees.FirstFile.{FirstFile};
 ghost use Rattle.io_edge.specs.Files.{FileList};
 ghost use Rattle.slint_meaning.specs.declared.refusals.LineRefusal.{LineRefusal as Refusal};
 ghost use Rattle.slint_meaning.specs.Commands.{refusal_reply, value_reply};
 ghost use Rattle.slint_meaning.specs.Laws.{answer_of, world_after, answers, Sets, Gets, SetsNot};
 ghost use Rattle.slint_meaning.specs.Runs.{Outcome, behind, run_lines, Runs};
-ghost use Rattle.slint_meaning.specs.Sources.{IsRead, is_reading_rule};
 ghost use Rattle.first_evaluator.specs.Values.{World};
-
-use slint_grammar::{one_fault, one_tree, tree_or_fault};
-use slint_lexer::{one_answer, token_rules, tokens_or_fault};
 
 /// A law, which does nothing when it is called: a refused line leaves every other reply as it would be without that line.
 pub fn refused_lines_change_nothing()
@@ -32,41 +26,16 @@ pub fn an_assignment_stays()
         → answer_of file (world_after file world (set ∷ between)) get ≡ value_reply value }
 {}
 
-/// A law, which does nothing when it is called: a file's bytes read as one tree, or they have one fault, and never both.
-pub fn one_reading()
-    ensures { (file : ℕ) (bytes : List ℕ) (a b : Result SourceFile ItsFault) → IsRead file bytes a → IsRead file bytes b → a ≡ b }
-{
-    one_answer();
-    one_tree();
-    one_fault();
-    tree_or_fault();
-}
-
-/// A law, which does nothing when it is called: any bytes of a file read as a tree, or they have a fault.
-pub fn some_reading()
-    ensures { (file : ℕ) (bytes : List ℕ) → (reading : Result SourceFile ItsFault) × IsRead file bytes reading }
-{
-    tokens_or_fault();
-    tree_or_fault();
-}
-
-/// A law, which does nothing when it is called: the fault of a file breaks one of the rules on the reading of files, and no other.
-pub fn reading_rules()
-    ensures { (file : ℕ) (bytes : List ℕ) (fault : ItsFault) → IsRead file bytes (Err fault) → IsTrue (is_reading_rule fault.rule) }
-{
-    token_rules();
-}
-
 /// A law, which does nothing when it is called: a run has at most one outcome.
 pub fn one_outcome()
     ensures { (ws : List (List ℕ)) (files : FileList) (script : List ℕ) (a b : Outcome) → Runs ws files script a → Runs ws files script b → a ≡ b }
 {
-    one_reading();
+    import_resolver::one_outcome();
 }
 
 /// A law, which does nothing when it is called: each run has an outcome.
 pub fn some_outcome()
     ensures { (ws : List (List ℕ)) (files : FileList) (script : List ℕ) → (outcome : Outcome) × Runs ws files script outcome }
 {
-    some_reading();
+    import_resolver::some_outcome();
 }

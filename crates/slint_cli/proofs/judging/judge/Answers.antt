@@ -1,15 +1,25 @@
 use Rattle.std.proofs.lemmas.Result.{err_from_is_err_and}
-use Rattle.slint_cli.proofs.Judged.{judged_unread, judged_first, judged_other}
+use Rattle.command_words.specs.Words.{words_seen}
+use Rattle.slint_cli.proofs.Judged.{judges_loaded, judges_stopped, counted_loaded, counted_stopped}
 use Rattle.slint_cli.proofs.judging.judge.Goals as goal
 
-pub returns-in_err-tree : goal.returns-in_err-tree
-returns-in_err-tree c =
-    let end = judged_unread c.args.bytes.now c.in_err-tree.field-0.0 c.in_err-tree.ensures in
+pub returns-in_err-loaded-clause-judged : goal.returns-in_err-loaded-clause-judged
+returns-in_err-loaded-clause-judged g c =
+    let end = judges_stopped (g.F.Files.held c.args.files.now) c.as_str.result.now (words_seen c.args.words.now) c.in_err-loaded.field-0.0 c.as_str.ensures c.in_err-loaded.ensures.loads in
     let p = err_from_is_err_and c.from_residual.result c.from_residual.ensures.1 in
     rw (p.1, p.2) end
 
-pub returns-in-Some : goal.returns-in-Some
-returns-in-Some c = judged_first c.args.bytes.now c.in_ok-tree.tree c.in_ok-component.field-0 c.in-Some.component c.in_ok-tree.ensures c.in_ok-component.ensures c.in-Some.is
+pub returns-in_err-loaded-clause-counted : goal.returns-in_err-loaded-clause-counted
+returns-in_err-loaded-clause-counted g c =
+    let end = counted_stopped c.in_err-loaded.field-0.0 (g.F.Files.faults c.args.files.now) (g.F.Files.faults c.load.new.files) (g.F.Files.misses c.args.files.now) (g.F.Files.misses c.load.new.files) c.in_err-loaded.ensures.counted in
+    let p = err_from_is_err_and c.from_residual.result c.from_residual.ensures.1 in
+    rw (p.1, p.2) end
 
-pub returns : goal.returns
-returns c = judged_other c.args.bytes.now c.in_ok-tree.tree c.in_ok-component.field-0 c.at_start.result c.in_ok-tree.ensures c.in_ok-component.ensures c.in-None.is c.at_start.ensures
+pub returns-clause-judged : goal.returns-clause-judged
+returns-clause-judged g c =
+    judges_loaded (g.F.Files.held c.args.files.now) c.as_str.result.now (words_seen c.args.words.now) c.in_ok-loaded.loaded c.judge_files.result c.as_str.ensures c.in_ok-loaded.ensures.loads c.judge_files.ensures.says
+
+pub returns-clause-counted : goal.returns-clause-counted
+returns-clause-counted g c =
+    counted_loaded c.judge_files.result (g.F.Files.faults c.args.files.now) (g.F.Files.faults c.load.new.files) (g.F.Files.misses c.args.files.now) (g.F.Files.misses c.load.new.files)
+    c.in_ok-loaded.ensures.counted.0 c.in_ok-loaded.ensures.counted.1 c.judge_files.ensures.still

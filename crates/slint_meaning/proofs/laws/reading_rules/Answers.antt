@@ -1,5 +1,0 @@
-use Rattle.slint_meaning.proofs.Readings.{reading_rule}
-use Rattle.slint_meaning.proofs.laws.reading_rules.Goals as goal
-
-pub returns : goal.returns
-returns c = reading_rule c.token_rules.ensures

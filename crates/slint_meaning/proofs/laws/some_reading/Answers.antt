@@ -1,5 +1,0 @@
-use Rattle.slint_meaning.proofs.Readings.{has_reading}
-use Rattle.slint_meaning.proofs.laws.some_reading.Goals as goal
-
-pub returns : goal.returns
-returns c = has_reading c.tokens_or_fault.ensures c.tree_or_fault.ensures.one

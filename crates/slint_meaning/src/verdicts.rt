@@ -1,2 +1,0 @@
-/// The main file's number among the files of a source.
-pub const MAIN_FILE: u32 = 0;
