@@ -89,7 +89,7 @@ fn by_rows(op: Op, left: TyCode, right: TyCode) -> Result<Operands, End<Rule>>
 
 impl TyCode {
     /// The type of a kind without parts; of one with parts `Ty::Void`.
-    fn plain_type(self) -> Ty
+    pub fn plain_type(self) -> Ty
         ensures { result ≡ plain_type self }
     {
         match self {
