@@ -1,5 +1,6 @@
 mod Asking
 mod Fitting
+mod Leading
 mod Lines
 mod Lists
 mod LoadSteps

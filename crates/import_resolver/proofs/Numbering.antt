@@ -15,7 +15,8 @@ use Rattle.file_exports.specs.Imports.{Import, import_of, imports_among, onto_so
 use Rattle.file_exports.specs.Roots.{has_name}
 use Rattle.import_paths.specs.Paths.{file_meant}
 use Rattle.import_resolver.specs.declared.tables.SeenFile.{SeenFile}
-use Rattle.import_resolver.specs.Numbers.{IsMeant, IsNumber, AllMeant, AreNumbers}
+use Rattle.import_resolver.specs.Loaded.{if_placed, number_meant, numbers_meant, place_among}
+use Rattle.import_resolver.specs.Numbers.{IsMeant, AllMeant, AreNumbers}
 use Rattle.import_resolver.specs.Tables.{names_of, path_of}
 
 -- ---- names and their places
@@ -53,8 +54,9 @@ meant_there main names importer path name is meant =
 pub meant_none : (main : List ℕ) (names : List (List ℕ)) (importer path : List ℕ) → None ≡ file_meant main importer path → IsMeant main names importer path → ⊥
 meant_none main names importer path none meant = let e : None ≡ Some meant.name = none ∙ meant.meant in cc
 
-pub meant_number : (main : List ℕ) (names : List (List ℕ)) (importer path name : List ℕ) (number : ℕ) → Some name ≡ file_meant main importer path → slice_get names number ≡ Some name → IsNumber main names importer path number
-meant_number main names importer path name number is place = record { name = name; meant = sym is; place = place }
+pub meant_number : (main : List ℕ) (names : List (List ℕ)) (importer path name : List ℕ) (number : ℕ) → Some name ≡ file_meant main importer path → position (λ other. bytes_eq other name) names ≡ Some number
+    → number ≡ number_meant main names importer path
+meant_number main names importer path name number is place = sym (ap (place_among names) (sym is) ∙ ap if_placed place)
 
 -- one more name
 pub names-step : (files : List SeenFile) (at : ℕ) (file : SeenFile) (old new : List (List ℕ)) → at < length files → file ≡ get_or files at file → old ≡ names_of (take at files) → new ≡ old ++ file.name ∷ [] → new ≡ names_of (take (at + 1) files)
@@ -72,14 +74,14 @@ meant_some main names importer (Some import) path text e is h =
     subst (λ (t : List ℕ). IsMeant main names importer t) same h.0
 
 pub number_some : (main : List ℕ) (names : List (List ℕ)) (importer : List ℕ) (import : Option Import) (path : Quoted) (text : List ℕ) (number : ℕ) → Some path ≡ option_map path_of import → text ≡ path.text
-    → IsNumber main names importer text number → AreNumbers main names importer (onto_some import []) (number ∷ [])
+    → number ≡ number_meant main names importer text → AreNumbers main names importer (onto_some import []) (number ∷ [])
 number_some main names importer None path text number e is h = cc
 number_some main names importer (Some import) path text number e is h =
     let same : text ≡ import.path.text = let paths : path ≡ import.path = cc in is ∙ ap (λ (p : Quoted). p.text) paths in
-    (subst (λ (t : List ℕ). IsNumber main names importer t number) same h, tt)
+    ap (λ (n : ℕ). n ∷ []) (h ∙ ap (λ (t : List ℕ). number_meant main names importer t) same)
 
 pub number_none : (main : List ℕ) (names : List (List ℕ)) (importer : List ℕ) (import : Option Import) → None ≡ option_map path_of import → AreNumbers main names importer (onto_some import []) []
-number_none main names importer None e = tt
+number_none main names importer None e = refl
 number_none main names importer (Some import) e = cc
 
 -- ---- the imports of a file, an item after the other
@@ -112,10 +114,11 @@ meant_behind main names importer items at item within is h =
 
 numbers-append : (main : List ℕ) (names : List (List ℕ)) (importer : List ℕ) (front back : List Import) (numbers more : List ℕ) → AreNumbers main names importer front numbers → AreNumbers main names importer back more
     → AreNumbers main names importer (front ++ back) (numbers ++ more)
-numbers-append main names importer [] back [] more h k = k
-numbers-append main names importer [] back (number ∷ numbers) more h k = absurd h
-numbers-append main names importer (import ∷ front) back [] more h k = absurd h
-numbers-append main names importer (import ∷ front) back (number ∷ numbers) more h k = (h.0, numbers-append main names importer front back numbers more h.1 k)
+numbers-append main names importer front back numbers more h k =
+    both numbers (numbers_meant main names importer front) more (numbers_meant main names importer back) h k ∙ sym (map-append (λ (import : Import). number_meant main names importer import.path.text) front back)
+  where
+    both : (xs us ys vs : List ℕ) → xs ≡ us → ys ≡ vs → xs ++ ys ≡ us ++ vs
+    both xs us ys vs p q = ap (λ zs. zs ++ ys) p ∙ ap (λ zs. us ++ zs) q
 
 onto-append : (import : Option Import) (front back : List Import) → onto_some import (front ++ back) ≡ onto_some import front ++ back
 onto-append None front back = refl

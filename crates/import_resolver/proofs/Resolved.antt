@@ -18,11 +18,11 @@ names_of files = map (λ (file : Seen). file.name) files
 abbrev pub Means : List ℕ → List Seen → Seen → Import → Type 0
 Means main seen file import = (name : List ℕ) × (file_meant main file.name import.path.text ≡ Some name) × (has_name (names_of seen) name ≡ true)
 
-abbrev EachMeans : List ℕ → List Seen → Seen → List Import → Type 0
+abbrev pub EachMeans : List ℕ → List Seen → Seen → List Import → Type 0
 EachMeans main seen file [] = Unit {0}
 EachMeans main seen file (import ∷ imports) = Means main seen file import × EachMeans main seen file imports
 
-abbrev AllMean : List ℕ → List Seen → List Seen → Type 0
+abbrev pub AllMean : List ℕ → List Seen → List Seen → Type 0
 AllMean main seen [] = Unit {0}
 AllMean main seen (file ∷ files) = EachMeans main seen file (imports_among file.tree.items) × AllMean main seen files
 
@@ -194,9 +194,13 @@ all-at main seen (first ∷ files) (suc k) file mean e = all-at main seen files 
 none_seen : AreSeen at_first
 none_seen name e = absurd (cc)
 
+-- each import of each file that was read means a file that was read
+pub all_mean : {w : World} {main : List ℕ} {s : State} → LoadsMain w main (Goes s) → AllMean main s.seen s.seen
+all_mean {w} {main} {s} load =
+    let all : Resolves main at_first (Whole (asked_first main) main) s = resolves none_seen load in
+    subst (λ (files : List Seen). AllMean main s.seen files) (sym all.grown) all.mean
+
 pub imports_resolved : {w : World} {main : List ℕ} {s : State} → LoadsMain w main (Goes s) → (k : ℕ) (file : Seen) → slice_get s.seen k ≡ Some file
     → (j : ℕ) (import : Import) → slice_get (imports_among file.tree.items) j ≡ Some import → Means main s.seen file import
 imports_resolved {w} {main} {s} load k file there j import its =
-    let all : Resolves main at_first (Whole (asked_first main) main) s = resolves none_seen load in
-    let mean : AllMean main s.seen s.seen = subst (λ (files : List Seen). AllMean main s.seen files) (sym all.grown) all.mean in
-    each-at main s.seen file (imports_among file.tree.items) j import (all-at main s.seen s.seen k file mean there) its
+    each-at main s.seen file (imports_among file.tree.items) j import (all-at main s.seen s.seen k file (all_mean load) there) its

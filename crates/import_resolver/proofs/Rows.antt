@@ -15,8 +15,7 @@ use Rattle.file_exports.specs.Roots.{has_name}
 use Rattle.import_paths.specs.Paths.{file_meant}
 use Rattle.import_resolver.specs.declared.loaded.SourceFile.{SourceFile}
 use Rattle.import_resolver.specs.declared.tables.SeenFile.{SeenFile}
-use Rattle.import_resolver.specs.Loads.{Seen, Resolve}
-use Rattle.import_resolver.specs.Loaded.{FileRow, ShowsFile, ShowFiles, row_of}
+use Rattle.import_resolver.specs.Loaded.{FileRow, numbers_meant, row_of, row_seen, rows_seen, seen_names}
 use Rattle.import_resolver.specs.Numbers.{AllMeant, AreNumbers, row_name, row_with}
 use Rattle.import_resolver.specs.Tables.{AtEach, names_of, seen_of_file}
 
@@ -86,31 +85,25 @@ names_of-rows main names [] (row ∷ rows) h = absurd h
 names_of-rows main names (file ∷ files) [] h = absurd h
 names_of-rows main names (file ∷ files) (row ∷ rows) h = cons_name row.name file.name (map row_name rows) (names_of files) h.0.name (names_of-rows main names files rows h.1)
 
--- ---- numbers resolve imports
+-- ---- the rows are those of the files
 
-number_is : (main : List ℕ) (path importer name : List ℕ) (seen : List Seen) (number : ℕ) (file : Option SeenFile) → slice_get seen number ≡ option_map seen_of_file file → option_map (λ (f : SeenFile). f.name) file ≡ Some name
-    → file_meant main importer path ≡ Some name → (other : Seen) × (slice_get seen number ≡ Some other) × (file_meant main importer path ≡ Some other.name)
-number_is main path importer name seen number None is named meant = cc
-number_is main path importer name seen number (Some file) is named meant = (seen_of_file file, is, let same : name ≡ file.name = cc in meant ∙ ap Some same)
+names-seen : (files : List SeenFile) → seen_names (map seen_of_file files) ≡ names_of files
+names-seen [] = refl
+names-seen (file ∷ files) = ap (λ names. file.name ∷ names) (names-seen files)
 
-pub resolve_by : (main : List ℕ) (all : List SeenFile) (file : SeenFile) (imports : List Import) (numbers : List ℕ) → AreNumbers main (names_of all) file.name imports numbers
-    → Resolve main (map seen_of_file all) (seen_of_file file) imports numbers
-resolve_by main all file [] [] h = tt
-resolve_by main all file [] (number ∷ numbers) h = absurd h
-resolve_by main all file (import ∷ imports) [] h = absurd h
-resolve_by main all file (import ∷ imports) (number ∷ numbers) h = (
-  number_is main import.path.text file.name h.0.name (map seen_of_file all) number (slice_get all number) (slice_get-map seen_of_file all number) (sym (slice_get-map (λ (f : SeenFile). f.name) all number) ∙ h.0.place) h.0.meant,
-  resolve_by main all file imports numbers h.1,
-)
+row_is : (main : List ℕ) (names : List (List ℕ)) (file : SeenFile) (row : FileRow) → IsRow main names file row → row ≡ row_seen main names (seen_of_file file)
+row_is main names file row h = made row.name file.name row.tree file.tree row.starts file.starts.items row.imports (numbers_meant main names file.name (imports_among file.tree.items)) h.name h.tree h.starts h.imports
+  where
+    made : (a b : List ℕ) (t u : File) (s r : List ℕ) (i j : List ℕ) → a ≡ b → t ≡ u → s ≡ r → i ≡ j → row_made a t s i ≡ row_made b u r j
+    made a b t u s r i j p q o e = cc
 
-shows-row : (main : List ℕ) (all : List SeenFile) (file : SeenFile) (row : FileRow) → IsRow main (names_of all) file row → ShowsFile main (map seen_of_file all) (seen_of_file file) row
-shows-row main all file row h = record { name = h.name; tree = h.tree; starts = h.starts; imports = resolve_by main all file (imports_among file.tree.items) row.imports h.imports }
-
-show-rows : (main : List ℕ) (all files : List SeenFile) (rows : List FileRow) → AreRows main (names_of all) files rows → ShowFiles main (map seen_of_file all) (map seen_of_file files) rows
-show-rows main all [] [] h = tt
-show-rows main all [] (row ∷ rows) h = absurd h
-show-rows main all (file ∷ files) [] h = absurd h
-show-rows main all (file ∷ files) (row ∷ rows) h = (shows-row main all file row h.0, show-rows main all files rows h.1)
+rows-are : (main : List ℕ) (names : List (List ℕ)) (files : List SeenFile) (rows : List FileRow) → AreRows main names files rows → rows ≡ map (row_seen main names) (map seen_of_file files)
+rows-are main names [] [] h = refl
+rows-are main names [] (row ∷ rows) h = absurd h
+rows-are main names (file ∷ files) [] h = absurd h
+rows-are main names (file ∷ files) (row ∷ rows) h =
+    let first : row ≡ row_seen main names (seen_of_file file) = row_is main names file row h.0 in
+    ap (λ (r : FileRow). r ∷ rows) first ∙ ap (λ (rs : List FileRow). row_seen main names (seen_of_file file) ∷ rs) (rows-are main names files rows h.1)
 
 -- ---- a file after the other: those that have rows, and those that are left
 
@@ -159,9 +152,8 @@ split-next main names all left rest rows more file numbers split first meant pus
   shown = let P : List FileRow → Type 0 = AreRows main names (split.done ++ file ∷ []) in subst P (sym pushed) (rows-push main names split.done rows file numbers split.shown meant);
 }
 
-pub split-end : (main : List ℕ) (names : List (List ℕ)) (all left : List SeenFile) (rows : List FileRow) → IsSplit main names all left rows → left ≡ [] → names ≡ names_of all → ShowFiles main (map seen_of_file all) (map seen_of_file all) rows
+pub split-end : (main : List ℕ) (names : List (List ℕ)) (all left : List SeenFile) (rows : List FileRow) → IsSplit main names all left rows → left ≡ [] → names ≡ names_of all → rows ≡ rows_seen main (map seen_of_file all)
 split-end main names all left rows split none is =
     let whole : split.done ≡ all = sym (split.parts ∙ (ap (λ (fs : List SeenFile). split.done ++ fs) none ∙ append-nil split.done)) in
     let P : List SeenFile → Type 0 = λ fs. AreRows main names fs rows in
-    let Q : List (List ℕ) → Type 0 = λ ns. AreRows main ns all rows in
-    show-rows main all all rows (subst Q is (subst P whole split.shown))
+    rows-are main names all rows (subst P whole split.shown) ∙ ap (λ ns. map (row_seen main ns) (map seen_of_file all)) (is ∙ sym (names-seen all))

@@ -11,7 +11,7 @@ use Rattle.import_resolver.specs.declared.ends.LoadEnd.TheVariants as ends
 use Rattle.import_resolver.specs.declared.loaded.Loaded.{Loaded}
 use Rattle.import_resolver.specs.declared.tables.SeenFile.{SeenFile}
 use Rattle.import_resolver.specs.declared.tables.Table.{Table}
-use Rattle.import_resolver.specs.Loaded.{LoadsSome, ShowFiles, rows_of}
+use Rattle.import_resolver.specs.Loaded.{LoadsSome, rows_of, rows_seen}
 use Rattle.import_resolver.specs.Loads.{World, Seen, Done, State, Whole, Outcome, Goes, Stops, Loads, LoadsMain, asked_first, at_first, is_done}
 use Rattle.import_resolver.specs.Numbers.{AllMeant, IsMeant}
 use Rattle.import_resolver.specs.Tables.{AtEach, Ended, Fits, Halted, IsFitting, IsRight, OwnsExports, Went, done_of_file, names_of, seen_of_file, state_of}
@@ -72,7 +72,7 @@ load-ended (Some told) main table new ends.Memory empty halted = (told, refl, tt
 
 -- a load that goes to its end
 pub load-went : (held : Option FileList) (main : List ℕ) (table new : Table) (loaded : Loaded) → IsEmpty table → Went main held table (Whole (asked_first main) main) new
-    → ShowFiles main (map seen_of_file new.files) (map seen_of_file new.files) (rows_of loaded) → LoadsSome held main (Ok loaded)
+    → rows_of loaded ≡ rows_seen main (map seen_of_file new.files) → LoadsSome held main (Ok loaded)
 load-went None main table new loaded empty went shows =
     let list = went.right.fitted in
     (list.held, tt, (state_of new, from-empty (bytes_named list.held) main table (Goes (state_of new)) empty (went.loads (bytes_named list.held) list.fits), shows))

@@ -4,19 +4,13 @@ use Rattle.file_exports.specs.Imports.{Import}
 use Rattle.file_exports.specs.Roots.{has_name}
 use Rattle.import_paths.specs.Paths.{file_meant}
 use Rattle.import_resolver.specs.declared.tables.SeenFile.{SeenFile}
-use Rattle.import_resolver.specs.Loaded.{FileRow}
+use Rattle.import_resolver.specs.Loaded.{FileRow, numbers_meant}
 
 -- a path in a file means a file of one of these names
 pub record IsMeant (main : List ℕ) (names : List (List ℕ)) (importer path : List ℕ) : Type 0 where
   pub name : List ℕ
   pub meant : file_meant main importer path ≡ Some name
   pub there : has_name names name ≡ true
-
--- it means the file of the name at this place
-pub record IsNumber (main : List ℕ) (names : List (List ℕ)) (importer path : List ℕ) (number : ℕ) : Type 0 where
-  pub name : List ℕ
-  pub meant : file_meant main importer path ≡ Some name
-  pub place : slice_get names number ≡ Some name
 
 -- each of a file's imports means a file of one of these names
 abbrev pub AllMeant : List ℕ → List (List ℕ) → List ℕ → List Import → Type 0
@@ -25,9 +19,7 @@ AllMeant main names importer (import ∷ imports) = IsMeant main names importer 
 
 -- the numbers of the files that imports mean, in their order
 abbrev pub AreNumbers : List ℕ → List (List ℕ) → List ℕ → List Import → List ℕ → Type 0
-AreNumbers main names importer [] [] = ⊤
-AreNumbers main names importer (import ∷ imports) (number ∷ numbers) = IsNumber main names importer import.path.text number × AreNumbers main names importer imports numbers
-AreNumbers main names importer _ _ = ⊥
+AreNumbers main names importer imports numbers = numbers ≡ numbers_meant main names importer imports
 
 -- the row of a file whose imports mean files of these numbers
 abbrev pub row_with : SeenFile → List ℕ → FileRow

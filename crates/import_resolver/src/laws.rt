@@ -1,5 +1,6 @@
 ghost use Rattle.std.specs.Prelude.{◌≡◌, ℕ, List};
-ghost use Rattle.import_resolver.specs.Loads.{LoadsMain, Outcome, World};
+ghost use Rattle.import_resolver.specs.Loaded.{ImportsLead};
+ghost use Rattle.import_resolver.specs.Loads.{Goes, LoadsMain, Outcome, State, World};
 
 use source_reader::{one_reading, some_reading};
 
@@ -16,3 +17,8 @@ pub fn some_outcome()
 {
     some_reading();
 }
+
+/// A law, which does nothing when it is called: where a load goes on, the number of each import of each file is that of the file which it means.
+pub fn imports_lead()
+    ensures { (w : World) (main : List ℕ) (s : State) → LoadsMain w main (Goes s) → ImportsLead main s.seen s.seen }
+{}

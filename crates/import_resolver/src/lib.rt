@@ -9,6 +9,6 @@ mod steps;
 mod tables;
 
 pub use ends::LoadEnd;
-pub use laws::{one_outcome, some_outcome};
+pub use laws::{imports_lead, one_outcome, some_outcome};
 pub use loaded::{Loaded, SourceFile};
 pub use loading::load;

@@ -1,11 +1,11 @@
-ghost use Rattle.std.specs.Prelude.{◌≡◌, ◌≤◌, [], ◌∷◌, ◌++◌, IfOk, MatchOption, OnOk, Some, false, length, map, slice_get, take, true};
+ghost use Rattle.std.specs.Prelude.{◌≡◌, ◌≤◌, [], ◌∷◌, ◌++◌, IfOk, MatchOption, OnOk, Some, false, length, map, take, true};
 ghost use Rattle.std.specs.List.{position};
 ghost use Rattle.std.specs.Str.{bytes_eq};
 ghost use Rattle.file_exports.specs.Imports.{imports_among, onto_some};
 ghost use Rattle.file_exports.specs.Roots.{has_name};
 ghost use Rattle.import_paths.specs.Paths.{IsBelow, folder_of};
-ghost use Rattle.import_resolver.specs.Loaded.{ShowFiles, rows_of};
-ghost use Rattle.import_resolver.specs.Numbers.{AllMeant, AreNumbers, IsMeant, IsNumber, row_name, row_with};
+ghost use Rattle.import_resolver.specs.Loaded.{number_meant, rows_of, rows_seen};
+ghost use Rattle.import_resolver.specs.Numbers.{AllMeant, AreNumbers, IsMeant, row_name, row_with};
 ghost use Rattle.import_resolver.specs.Tables.{AtEach, names_of, seen_of_file};
 
 use crate::steps::path_of;
@@ -40,7 +40,7 @@ impl Loaded {
         requires below { AtEach table.files (λ k file. IsBelow (folder_of main.now) file.name) }
         requires once { AtEach table.files (λ k file. has_name (names_of (take k table.files)) file.name ≡ false) }
         requires meant { AtEach table.files (λ k file. AllMeant main.now (names_of table.files) file.name (imports_among file.tree.items)) }
-        ensures { IfOk result (λ loaded. ShowFiles main.now (map seen_of_file table.files) (map seen_of_file table.files) (rows_of loaded)) }
+        ensures { IfOk result (λ loaded. rows_of loaded ≡ rows_seen main.now (map seen_of_file table.files)) }
     {
         let Table { mut files, .. } = table;
         let listed = file_names(alloc, files.as_slice())?;
@@ -156,7 +156,7 @@ fn number_meant(
     requires few { length names.now ≤ 64 }
     requires below { IsBelow (folder_of main.now) importer.now }
     requires meant { IsMeant main.now names.now importer.now path.now }
-    ensures { IfOk result (λ number. IsNumber main.now names.now importer.now path.now number) }
+    ensures { IfOk result (λ number. number ≡ number_meant main.now names.now importer.now path.now) }
 {
     match file_meant(alloc, main, importer, path)? {
         Some(name) => Ok(number_named(names, name.as_str())),
@@ -168,7 +168,7 @@ fn number_meant(
 fn number_named(names: &[Text], name: &str) -> u32
     requires few { length names.now ≤ 64 }
     requires there { has_name names.now name.now ≡ true }
-    ensures { slice_get names.now result ≡ Some name.now }
+    ensures { position (λ other. bytes_eq other name.now) names.now ≡ Some result }
 {
     match place_named(names, name) {
         Some(place) => place as u32,
