@@ -1,0 +1,3 @@
+pub mod FieldIndexes
+pub mod FieldLemmas
+pub mod SameIs
