@@ -1,0 +1,13 @@
+pub mod Bases
+pub mod BuiltIns
+pub mod Declarers
+pub mod Elements
+pub mod Files
+pub mod Finding
+pub mod Indexed
+pub mod Indexes
+pub mod MemberIndexes
+pub mod Members
+pub mod Parts
+pub mod Scopes
+pub mod Typed
