@@ -1,0 +1,4 @@
+pub mod Asking
+pub mod Leads
+pub mod Names
+pub mod Paths
