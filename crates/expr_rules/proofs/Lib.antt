@@ -1,0 +1,9 @@
+pub mod Fronts
+pub mod Lists
+pub mod Nothing
+pub mod PartCounts
+pub mod PathLemmas
+pub mod Pieces
+pub mod Sides
+pub mod StableSorts
+pub mod Zips

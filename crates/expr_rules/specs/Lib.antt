@@ -1,0 +1,9 @@
+pub mod Denotations
+pub mod Layers
+pub mod Literals
+pub mod Own
+pub mod OwnBlocks
+pub mod OwnSteps
+pub mod Paths
+pub mod PathsSeen
+pub mod Targets
