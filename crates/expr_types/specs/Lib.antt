@@ -1,0 +1,5 @@
+pub mod Judgement
+pub mod Kinds
+pub mod Nodes
+pub mod Typing
+pub mod Verdicts
