@@ -1,0 +1,13 @@
+pub mod Deciding
+pub mod Drawing
+pub mod Labelling
+pub mod Labels
+pub mod Lists
+pub mod Marking
+pub mod Merging
+pub mod Numbers
+pub mod Ranking
+pub mod Reaching
+pub mod RowLemmas
+pub mod Searching
+pub mod Spreading
