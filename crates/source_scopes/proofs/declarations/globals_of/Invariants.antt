@@ -1,0 +1,9 @@
+use Rattle.std.proofs.Common.{◌≡◌, map, take}
+use Rattle.import_resolver.specs.Loaded.{rows_of}
+use Rattle.source_scopes.specs.Declarations.{globals_among, of_files}
+use Rattle.source_scopes.specs.Shown.{shown_global}
+use Rattle.source_scopes.proofs.declarations.globals_of.Given as goal
+
+-- those of the files so far
+abbrev pub invariant-loop-file : goal.invariant-loop-file
+invariant-loop-file l = map shown_global l.made ≡ of_files globals_among 0 (take l.file (rows_of l.loaded))

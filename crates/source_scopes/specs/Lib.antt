@@ -1,0 +1,9 @@
+pub mod Declarations
+pub mod Entries
+pub mod Indexed
+pub mod Names
+pub mod Naming
+pub mod Shown
+pub mod Structs
+pub mod Tables
+pub mod Types
