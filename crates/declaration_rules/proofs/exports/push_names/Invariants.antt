@@ -1,0 +1,7 @@
+use Rattle.std.proofs.Common.{◌≡◌, take, ◌++◌, map}
+use Rattle.declaration_rules.specs.Repeats.{name_of}
+use Rattle.declaration_rules.proofs.exports.push_names.Given as goal
+
+-- what the front of the list comes to is there
+abbrev pub invariant-loop-word : goal.invariant-loop-word
+invariant-loop-word l = l.names ≡ l.initial.names ++ map name_of (take l.word-index l.words)

@@ -1,0 +1,9 @@
+use Rattle.std.proofs.Common.{◌≡◌, take}
+use Rattle.std.specs.List.{flat_map}
+use Rattle.fault_order.specs.Order.{first_of}
+use Rattle.declaration_rules.specs.Declarations.{unlisted}
+use Rattle.declaration_rules.proofs.unknown.first_unlisted.Given as goal
+
+-- the first fault of the front of the list is told
+abbrev pub invariant-loop-word : goal.invariant-loop-word
+invariant-loop-word l = l.first ≡ first_of (flat_map (unlisted l.names) (take l.word-index l.words))

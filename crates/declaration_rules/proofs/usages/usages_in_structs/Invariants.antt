@@ -1,0 +1,9 @@
+use Rattle.std.proofs.Common.{◌≡◌, [], map, take}
+use Rattle.source_scopes.specs.Shown.{shown_struct}
+use Rattle.declaration_rules.specs.Circles.{usages_in_struct}
+use Rattle.declaration_rules.specs.Turns.{in_turn}
+use Rattle.declaration_rules.proofs.usages.usages_in_structs.Given as goal
+
+-- the uses in the front of the list are there
+abbrev pub invariant-loop-number : goal.invariant-loop-number
+invariant-loop-number l = l.usages ≡ in_turn (usages_in_struct l.scopes) [] (map shown_struct (take l.number l.structs))

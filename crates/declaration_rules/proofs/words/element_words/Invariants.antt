@@ -1,0 +1,8 @@
+use Rattle.std.proofs.Common.{◌≡◌, take}
+use Rattle.std.specs.List.{flat_map}
+use Rattle.declaration_rules.specs.Words.{element_words_of, if_declared}
+use Rattle.declaration_rules.proofs.words.element_words.Given as goal
+
+-- what the front of the list comes to is there
+abbrev pub invariant-loop-item : goal.invariant-loop-item
+invariant-loop-item l = l.words ≡ flat_map (if_declared element_words_of) (take l.item-index l.items)
