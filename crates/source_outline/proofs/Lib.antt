@@ -1,0 +1,12 @@
+pub mod Behind
+pub mod Chains
+pub mod Deciding
+pub mod Drawings
+pub mod Endless
+pub mod FileTurns
+pub mod FirstFaults
+pub mod Outwards
+pub mod Pops
+pub mod SlotTurns
+pub mod StartTurns
+pub mod Turns

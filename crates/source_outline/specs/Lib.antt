@@ -1,0 +1,8 @@
+pub mod Doubling
+pub mod Ends
+pub mod Following
+pub mod Laws
+pub mod Marked
+pub mod Members
+pub mod Outlines
+pub mod Slots
