@@ -1,0 +1,4 @@
+pub mod Fields
+pub mod OtherRows
+pub mod RowWalks
+pub mod Turns
