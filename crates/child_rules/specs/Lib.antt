@@ -1,0 +1,12 @@
+pub mod Cells
+pub mod Children
+pub mod Cursors
+pub mod Ends
+pub mod Faults
+pub mod Grids
+pub mod Jumps
+pub mod Landing
+pub mod Numbers
+pub mod Rows
+pub mod Source
+pub mod Ways
