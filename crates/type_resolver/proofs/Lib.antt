@@ -1,0 +1,9 @@
+mod Counting
+mod Following
+mod Judged
+mod Passing
+mod Resolutions
+mod Seeing
+mod Sounding
+mod TellingAll
+mod Walking

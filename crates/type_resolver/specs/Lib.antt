@@ -1,0 +1,4 @@
+pub mod Bodies
+pub mod Resolves
+pub mod Seen
+pub mod Walking
