@@ -1,3 +1,4 @@
 pub mod Assignments
+pub mod Judgements
 pub mod Outcomes
 pub mod Turns

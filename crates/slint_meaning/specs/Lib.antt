@@ -3,3 +3,4 @@ pub mod Endings
 pub mod Laws
 pub mod Refusals
 pub mod Runs
+pub mod Verdicts

@@ -6,5 +6,8 @@ mod laws;
 mod refusals;
 
 pub use endings::Ending;
-pub use laws::{an_assignment_stays, one_outcome, refused_lines_change_nothing, some_outcome};
+pub use laws::{
+    an_assignment_stays, one_outcome, one_verdict, refused_lines_change_nothing, some_outcome,
+    some_verdict,
+};
 pub use refusals::LineRefusal;
