@@ -1,115 +1,148 @@
--- The verdict on a source, from its load and from what its main file is.
-use Rattle.std.proofs.Common.{◌≡◌, ◌↔◌, ℕ, zero, suc, ◌<◌, Bool, true, false, List, [], ◌∷◌, length, Option, None, Some, Result, Ok, Err, refl, sym, ap, ◌∙◌, subst, arith}
-use Rattle.std.specs.Prelude.{if◌then◌else◌, IsTrue}
+-- The verdict on a source, from its load and from what its files are.
+use Rattle.std.proofs.Common.{◌≡◌, ◌↔◌, ◌<◌, ℕ, zero, suc, Bool, true, false, List, [], ◌∷◌, length, Option, None, Some, Result, Ok, Err, refl, sym, ap, ◌∙◌, subst, arith}
+use Rattle.std.specs.Prelude.{if◌then◌else◌, IfOk, IsTrue, String, map, option_map, slice_get}
+use Rattle.std.specs.Global.{Global}
+use Rattle.std.proofs.lemmas.Option.{slice_get-map}
+use Rattle.slint_base.specs.declared.endings.Memory.{Memory}
+use Rattle.slint_base.specs.declared.endings.End.{End}
+use Rattle.slint_base.specs.declared.endings.End.TheVariants as checks
+use Rattle.slint_base.specs.declared.faults.Fault.{Fault}
 use Rattle.slint_base.specs.declared.refusals.Refusal.{Refusal}
-use Rattle.slint_base.specs.declared.rules.Rule.{Rule}
-use Rattle.slint_base.specs.declared.rules.Rule.TheVariants.{NoComponent, NotBuilt, FileMissing}
+use Rattle.slint_base.specs.declared.rules.Rule.TheVariants.{NotBuilt, FileMissing}
 use Rattle.io_edge.specs.Files.{FileList, bytes_named}
 use Rattle.command_words.specs.Words.{WordsOf}
-use Rattle.syntax_tree.specs.declared.files.File.{File}
-use Rattle.file_exports.specs.Roots.{root_place}
 use Rattle.import_resolver.specs.declared.ends.LoadEnd.{LoadEnd}
 use Rattle.import_resolver.specs.declared.ends.LoadEnd.TheVariants as ends
 use Rattle.import_resolver.specs.declared.loaded.Loaded.{Loaded}
+use Rattle.import_resolver.specs.declared.loaded.SourceFile.{SourceFile}
 use Rattle.import_resolver.specs.Ends.{IsRefusal, LoadCount}
-use Rattle.import_resolver.specs.Loaded.{FileRow, LoadsSome, ShowFiles, rows_of}
-use Rattle.import_resolver.specs.Loads.{World, Seen, State, Goes, Stops, LoadsMain}
+use Rattle.import_resolver.specs.Loaded.{FileRow, LoadsSome, row_of, rows_of, rows_seen}
+use Rattle.import_resolver.specs.Loads.{World, State, Goes, Stops, LoadsMain}
+use Rattle.typed_tree.specs.declared.trees.TypedTree.{TypedTree}
+use Rattle.type_resolver.specs.Resolves.{IsResolved, Resolves}
+use Rattle.loop_check.specs.Purity.{ChecksPurity}
 use Rattle.first_evaluator.specs.declared.trees.FirstFile.{FirstFile}
 use Rattle.first_evaluator.specs.First.{first_source}
-use Rattle.slint_meaning.specs.Runs.{Verdict, accepted, rejected, at_main, first_alone, if_first, if_rooted, of_files}
-use Rattle.slint_cli.specs.Verdicts.{Judges, JudgesIn, Says}
+use Rattle.slint_meaning.specs.Verdicts.{rejected, at_main, refusal_at, refusal_in, SourceFault, of_names, of_purity, IsSound, sound, first_alone, if_first, with_fault, without_fault}
+use Rattle.slint_cli.specs.Verdicts.{Checks, IsNoMiss, Judges, JudgesIn, Says}
 
--- ---- answers on a main file's tree
+-- ---- checks of loaded files
 
-says_refused : (refusal : Refusal) (end : LoadEnd) → IsRefusal refusal end → Says (rejected refusal) (Err end)
-says_refused refusal (ends.Refused told) h = ap (λ r. rejected r) (sym h)
-says_refused refusal ends.ReadFault h = absurd h
-says_refused refusal ends.Memory h = tt
+-- files with a tree
+pub checks_purity : (rows : List FileRow) (named : Option (List ℕ)) (tree : TypedTree) (result : Result (Unit {0}) (End Fault)) → IsResolved rows named tree → ChecksPurity tree result → Checks rows named result
+checks_purity rows named tree (Ok done) r h = sound r h
+checks_purity rows named tree (Err (checks.Fault f)) r h = of_purity r h
+checks_purity rows named tree (Err checks.Memory) r h = tt
 
--- a tree of the first language
-pub says_first : (main : List ℕ) (first : Option FirstFile) (found : Option FirstFile) (file : FirstFile) → found ≡ first → found ≡ Some file → Says (if_first main first) (Ok file)
-says_first main first found file e some = ap (λ f. if_first main f) (sym e ∙ some)
+-- and files without one
+pub checks_end : (rows : List FileRow) (named : Option (List ℕ)) (end : End Fault) → Resolves rows named (Err end) → Checks rows named (Err end)
+checks_end rows named (checks.Fault f) h = of_names h
+checks_end rows named checks.Memory h = tt
 
--- and any other
-pub says_other : (main : List ℕ) (first : Option FirstFile) (found : Option FirstFile) (end : LoadEnd) → found ≡ first → found ≡ None → IsRefusal (at_main NotBuilt main) end → Says (if_first main first) (Err end)
-says_other main first found end e none h =
-    let P : Option FirstFile → Type 0 = λ f. Says (if_first main f) (Err end) in
-    subst P (sym none ∙ e) (says_refused (at_main NotBuilt main) end h)
+-- that a check found nothing
+pub checked_sound : (rows : List FileRow) (named same : Option (List ℕ)) → named ≡ same → IsSound rows named → IsSound rows same
+checked_sound rows named same e h = let P : Option (List ℕ) → Type 0 = λ n. IsSound rows n in subst P e h
 
--- a main file that has its root
-pub says_rooted : (main : List ℕ) (place root : Option ℕ) (here : ℕ) (first : Option FirstFile) (result : Result FirstFile LoadEnd) → root ≡ place → root ≡ Some here → Says (if_first main first) result → Says (if_rooted main place first) result
-says_rooted main place root here first result e some h =
-    let P : Option ℕ → Type 0 = λ p. Says (if_rooted main p first) result in
-    subst P (sym some ∙ e) h
+-- the fault that a check found
+pub checked_fault : (rows : List FileRow) (named same : Option (List ℕ)) (end : End Fault) (f : Fault) → named ≡ same → Checks rows named (Err end) → end ≡ checks.Fault f → SourceFault rows same f
+checked_fault rows named same end f e h is =
+    let P : End Fault → Type 0 = λ x. Checks rows named (Err x) in
+    let Q : Option (List ℕ) → Type 0 = λ n. SourceFault rows n f in
+    subst Q e (subst P is h)
 
--- and one that has none
-pub says_rootless : (main : List ℕ) (place root : Option ℕ) (first : Option FirstFile) (end : LoadEnd) → root ≡ place → root ≡ None → IsRefusal (at_main NoComponent main) end → Says (if_rooted main place first) (Err end)
-says_rootless main place root first end e none h =
-    let P : Option ℕ → Type 0 = λ p. Says (if_rooted main p first) (Err end) in
-    subst P (sym none ∙ e) (says_refused (at_main NoComponent main) end h)
+-- ---- refusals
 
--- a refusal of the source as a whole is none for a missing file
-pub refused_still : (rule : Rule) (main : List ℕ) (end : LoadEnd) → (rule ≡ FileMissing → ⊥) → IsRefusal (at_main rule main) end → (faults misses : ℕ) → LoadCount {A = FirstFile} (Err end) faults faults misses misses
-refused_still rule main (ends.Refused told) other h faults misses = (refl, λ e. absurd (other (ap (λ (r : Refusal). r.rule) (sym h) ∙ e)))
-refused_still rule main ends.ReadFault other h faults misses = absurd h
-refused_still rule main ends.Memory other h faults misses = refl
+-- for a fault in a file that there is, and in one that there isn't
+pub refused_by_row : (main : List ℕ) (rows : List FileRow) (f : Fault) (row : Option FileRow) (result : Result Refusal Memory) → slice_get rows f.span.file ≡ row
+    → IfOk result (λ refusal. refusal ≡ refusal_at main row f) → IfOk result (λ refusal. refusal ≡ refusal_in main rows f)
+refused_by_row main rows f row result e h =
+    let P : Option FileRow → Type 0 = λ o. IfOk result (λ refusal. refusal ≡ refusal_at main o f) in
+    subst P (sym e) h
+
+-- the row of a file
+pub row_found : (entries : List (String Global × SourceFile)) (n : ℕ) (entry : Option (String Global × SourceFile)) → slice_get entries n ≡ entry → slice_get (map row_of entries) n ≡ option_map row_of entry
+row_found entries n entry e = slice_get-map row_of entries n ∙ ap (option_map row_of) e
 
 -- ---- answers on loaded files
 
--- as many files are shown as there are
-same_count : (main : List ℕ) (all seen : List Seen) (rows : List FileRow) → ShowFiles main all seen rows → length rows ≡ length seen
-same_count main all [] [] shows = refl
-same_count main all (file ∷ seen) (row ∷ rows) shows = let rest = same_count main all seen rows shows.1 in omega (arith, rest)
-same_count main all [] (row ∷ rows) shows = absurd shows
-same_count main all (file ∷ seen) [] shows = absurd shows
+-- the refusal for a fault breaks the fault's rule
+refusal_rule : (main : List ℕ) (row : Option FileRow) (f : Fault) → (refusal_at main row f).rule ≡ f.rule
+refusal_rule main None f = refl
+refusal_rule main (Some row) f = refl
+
+-- so it is none for a missing file where the fault is none
+pub refused_other : (main : List ℕ) (rows : List FileRow) (f : Fault) (refusal : Refusal) → refusal ≡ refusal_in main rows f → (f.rule ≡ FileMissing → ⊥) → refusal.rule ≡ FileMissing → ⊥
+refused_other main rows f refusal is other e = other (sym (refusal_rule main (slice_get rows f.span.file) f) ∙ (sym (ap (λ (r : Refusal). r.rule) is) ∙ e))
+
+-- and neither is a refusal of the source as a whole, since it isn't in the language as far as it is run
+pub built_other : (main : List ℕ) (refusal : Refusal) → refusal ≡ at_main NotBuilt main → refusal.rule ≡ FileMissing → ⊥
+built_other main refusal is e = let no : NotBuilt ≡ FileMissing = sym (ap (λ (r : Refusal). r.rule) is) ∙ e in absurd cc
+
+-- files with a fault
+pub says_fault : (main : List ℕ) (named : Option (List ℕ)) (rows : List FileRow) (f : Fault) (end : LoadEnd) → SourceFault rows named f → IsRefusal (refusal_in main rows f) end → Says main named rows (Err end)
+says_fault main named rows f (ends.Refused told) fault h = with_fault fault (ap (λ r. rejected r) h)
+says_fault main named rows f ends.ReadFault fault h = absurd h
+says_fault main named rows f ends.Memory fault h = tt
+
+-- files without one, in the first language
+pub says_first : (main : List ℕ) (named : Option (List ℕ)) (rows : List FileRow) (found : Option FirstFile) (file : FirstFile) → IsSound rows named → found ≡ first_alone rows → found ≡ Some file → Says main named rows (Ok file)
+says_first main named rows found file is e some = without_fault is (ap (λ f. if_first main f) (sym some ∙ e))
+
+-- and in any other
+pub says_other : (main : List ℕ) (named : Option (List ℕ)) (rows : List FileRow) (found : Option FirstFile) (end : LoadEnd) → IsSound rows named → found ≡ first_alone rows → found ≡ None → IsRefusal (at_main NotBuilt main) end
+    → Says main named rows (Err end)
+says_other main named rows found (ends.Refused told) is e none h = without_fault is (ap (λ r. rejected r) h ∙ ap (λ f. if_first main f) (sym none ∙ e))
+says_other main named rows found ends.ReadFault is e none h = absurd h
+says_other main named rows found ends.Memory is e none h = tt
+
+-- an answer that is no refusal for a missing file needs no miss
+pub other_still : (end : LoadEnd) → IsNoMiss end → (faults misses : ℕ) → LoadCount {A = FirstFile} (Err end) faults faults misses misses
+other_still (ends.Refused told) other faults misses = (refl, λ e. absurd (other e))
+other_still ends.ReadFault other faults misses = absurd other
+other_still ends.Memory other faults misses = refl
+
+-- ---- one file alone
 
 -- by whether there are other files
-alone_first : (tree : File) (others : List Seen) (alone : Bool) → (IsTrue alone ↔ (length others ≡ 0)) → (if alone then first_source tree else None) ≡ first_alone tree others
-alone_first tree [] true is = refl
-alone_first tree [] false is = let no = is.1 refl in absurd cc
-alone_first tree (other ∷ others) true is = let no = is.0 refl in absurd (omega arith)
-alone_first tree (other ∷ others) false is = refl
+pub alone_first : (row : FileRow) (others : List FileRow) (alone : Bool) → (IsTrue alone ↔ (length others ≡ 0)) → (if alone then first_source row.tree else None) ≡ first_alone (row ∷ others)
+alone_first row [] true is = refl
+alone_first row [] false is = let no = is.1 refl in absurd cc
+alone_first row (other ∷ others) true is = let no = is.0 refl in absurd (omega arith)
+alone_first row (other ∷ others) false is = refl
 
--- the files that rows show, where the first row's tree is the main file's
-pub says_shown : (main : List ℕ) (named : Option (List ℕ)) (all seen : List Seen) (row : FileRow) (rest : List FileRow) (alone : Bool) (result : Result FirstFile LoadEnd)
-    → (IsTrue alone ↔ (length rest ≡ 0))
-    → Says (if_rooted main (root_place named row.tree.items) (if alone then first_source row.tree else None)) result
-    → ShowFiles main all seen (row ∷ rest) → Says (of_files main named seen) result
-says_shown main named all [] row rest alone result is says shows = absurd shows
-says_shown main named all (file ∷ others) row rest alone result is says shows =
-    let count = same_count main all others rest shows.1 in
-    let first = alone_first row.tree others alone ((λ t. sym count ∙ is.0 t), (λ e. is.1 (count ∙ e))) in
-    let P : Option FirstFile → Type 0 = λ f. Says (if_rooted main (root_place named row.tree.items) f) result in
-    let Q : File → Type 0 = λ t. Says (if_rooted main (root_place named t.items) (first_alone t others)) result in
-    subst Q shows.0.tree (subst P first says)
+pub found_alone : (rows : List FileRow) (row : FileRow) (others : List FileRow) (alone : Bool) (result : Result (Option FirstFile) Memory) → rows ≡ row ∷ others → (IsTrue alone ↔ (length others ≡ 0))
+    → IfOk result (λ found. found ≡ (if alone then first_source row.tree else None)) → IfOk result (λ found. found ≡ first_alone rows)
+found_alone rows row others alone result e is h =
+    let P : Option FirstFile → Type 0 = λ o. IfOk result (λ found. found ≡ o) in
+    let Q : List FileRow → Type 0 = λ rs. IfOk result (λ found. found ≡ first_alone rs) in
+    subst Q (sym e) (subst P (alone_first row others alone is) h)
+
+-- no files
+pub none_alone : (rows : List FileRow) → length rows ≡ 0 → None ≡ first_alone rows
+none_alone [] e = refl
+none_alone (row ∷ rows) e = absurd (omega arith)
 
 -- what isn't above 0
 pub none_by : (n : ℕ) → (0 < n → false ≡ true) → n ≡ 0
 none_by zero some = refl
 none_by (suc n) some = let no = some (omega arith) in absurd cc
 
--- no rows show no files
-pub says_none : (main : List ℕ) (named : Option (List ℕ)) (all seen : List Seen) (rows : List FileRow) (end : LoadEnd) → length rows ≡ 0 → IsRefusal (at_main NoComponent main) end
-    → ShowFiles main all seen rows → Says (of_files main named seen) (Err end)
-says_none main named all [] rows end none h shows = says_refused (at_main NoComponent main) end h
-says_none main named all (file ∷ files) [] end none h shows = absurd shows
-says_none main named all (file ∷ files) (row ∷ rows) end none h shows = absurd (omega arith)
-
 -- ---- answers on a source
 
-judged_loaded : (w : World) (words : WordsOf) (s : State) (result : Result FirstFile LoadEnd) → LoadsMain w words.file (Goes s) → Says (of_files words.file words.component s.seen) result → JudgesIn w words result
-judged_loaded w words s (Ok file) loads says = (Goes s, loads, sym says)
-judged_loaded w words s (Err (ends.Refused refusal)) loads says = (Goes s, loads, sym says)
+judged_loaded : (w : World) (words : WordsOf) (s : State) (result : Result FirstFile LoadEnd) → LoadsMain w words.file (Goes s) → Says words.file words.component (rows_seen words.file s.seen) result → JudgesIn w words result
+judged_loaded w words s (Ok file) loads says = (Goes s, loads, says)
+judged_loaded w words s (Err (ends.Refused refusal)) loads says = (Goes s, loads, says)
 judged_loaded w words s (Err ends.ReadFault) loads says = tt
 judged_loaded w words s (Err ends.Memory) loads says = tt
 
 -- one that is loaded
 pub judges_loaded : (held : Option FileList) (name : List ℕ) (words : WordsOf) (loaded : Loaded) (result : Result FirstFile LoadEnd) → name ≡ words.file → LoadsSome held name (Ok loaded)
-    → ((seen : List Seen) → ShowFiles words.file seen seen (rows_of loaded) → Says (of_files words.file words.component seen) result) → Judges held words result
+    → Says words.file words.component (rows_of loaded) result → Judges held words result
 judges_loaded held name words loaded result same loads says =
     let P : List ℕ → Type 0 = λ n. LoadsSome held n (Ok loaded) in
+    let Q : List FileRow → Type 0 = λ rows. Says words.file words.component rows result in
     let found = subst P same loads in
-    (found.0, found.1, judged_loaded (bytes_named found.0) words found.2.0 result found.2.1 (says found.2.0.seen found.2.2))
+    (found.0, found.1, judged_loaded (bytes_named found.0) words found.2.0 result found.2.1 (subst Q found.2.2 says))
 
 -- and one that isn't
 judges_end : (held : Option FileList) (words : WordsOf) (end : LoadEnd) → LoadsSome held words.file (Err end) → Judges held words (Err end)

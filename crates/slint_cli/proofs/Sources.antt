@@ -21,7 +21,8 @@ use Rattle.import_resolver.specs.Loads.{World, Outcome as Load, Stops, LoadsMain
 use Rattle.first_evaluator.specs.declared.trees.FirstFile.{FirstFile}
 use Rattle.slint_meaning.specs.declared.endings.Ending.TheVariants.{Refused}
 use Rattle.slint_meaning.specs.Commands.{written}
-use Rattle.slint_meaning.specs.Runs.{Outcome, Verdict, accepted, rejected, HasVerdict, verdict_of, unreadable}
+use Rattle.slint_meaning.specs.Runs.{Outcome, unreadable}
+use Rattle.slint_meaning.specs.Verdicts.{Verdict, accepted, rejected, HasVerdict, LoadHas}
 use Rattle.slint_cli.specs.Running.{MissedFile, MissedWhereMissing, RanScript, RanWords, Tells}
 use Rattle.slint_cli.specs.Verdicts.{Judges}
 use Rattle.slint_cli.specs.declared.replies.Output.{Output}
@@ -146,11 +147,13 @@ words_same words its e = cc
 -- a load that stops tells the verdict
 rejected_by : OneLoad → (w : World) (words : WordsOf) (refusal other : Refusal) → HasVerdict w words.file words.component (rejected refusal) → LoadsMain w words.file (Stops other) → refusal ≡ other
 rejected_by one w words refusal other has loads =
-    let same : rejected refusal ≡ rejected other = has.2 ∙ ap (λ o. verdict_of words.file words.component o) (one w words.file has.0 (Stops other) has.1 loads) in cc
+    let P : Load → Type 0 = λ o. LoadHas words.file words.component o (rejected refusal) in
+    let same : rejected refusal ≡ rejected other = subst P (one w words.file has.0 (Stops other) has.1 loads) has.2 in cc
 
 accepted_by : OneLoad → (w : World) (words : WordsOf) (file : FirstFile) (other : Refusal) → HasVerdict w words.file words.component (accepted file) → LoadsMain w words.file (Stops other) → ⊥
 accepted_by one w words file other has loads =
-    let same : accepted file ≡ rejected other = has.2 ∙ ap (λ o. verdict_of words.file words.component o) (one w words.file has.0 (Stops other) has.1 loads) in cc
+    let P : Load → Type 0 = λ o. LoadHas words.file words.component o (accepted file) in
+    let same : accepted file ≡ rejected other = subst P (one w words.file has.0 (Stops other) has.1 loads) has.2 in cc
 
 -- where told files make the source refused for a missing one
 pub missing_refused : OneLoad → (held : Option FileList) (words : WordsOf) (refusal : Refusal) (misses misses_now : ℕ) → Judges held words (Err (ends.Refused refusal))

@@ -1,20 +1,37 @@
 -- What an answer on a source says of its verdict.
 use Rattle.std.specs.Prelude.{◌≡◌, ⊤, List, ℕ, Option, Result, Ok, Err}
+use Rattle.slint_base.specs.declared.endings.End.{End}
+use Rattle.slint_base.specs.declared.endings.End.TheVariants as checks
+use Rattle.slint_base.specs.declared.faults.Fault.{Fault}
+use Rattle.slint_base.specs.declared.rules.Rule.TheVariants.{FileMissing}
 use Rattle.io_edge.specs.Files.{FileList, bytes_named}
 use Rattle.command_words.specs.Words.{WordsOf}
 use Rattle.import_resolver.specs.declared.ends.LoadEnd.{LoadEnd}
 use Rattle.import_resolver.specs.declared.ends.LoadEnd.TheVariants as ends
+use Rattle.import_resolver.specs.Loaded.{FileRow}
 use Rattle.import_resolver.specs.Loads.{World}
 use Rattle.first_evaluator.specs.declared.trees.FirstFile.{FirstFile}
-use Rattle.slint_meaning.specs.Runs.{Verdict, accepted, rejected, HasVerdict}
+use Rattle.slint_meaning.specs.Verdicts.{Verdict, accepted, rejected, FilesHave, HasVerdict, IsSound, SourceFault}
 use Rattle.slint_cli.specs.Running.{Tells}
 
--- the verdict is what is answered, unless memory ran out: the tree of a component, or the refusal; nothing was read
-abbrev pub Says : Verdict → Result FirstFile LoadEnd → Type 0
-Says verdict (Ok file) = verdict ≡ accepted file
-Says verdict (Err (ends.Refused refusal)) = verdict ≡ rejected refusal
-Says verdict (Err ends.ReadFault) = ⊥
-Says verdict (Err ends.Memory) = ⊤
+-- loaded files have no fault of names, types or purity, or this is the one that is told, unless memory ran out
+abbrev pub Checks : List FileRow → Option (List ℕ) → Result (Unit {0}) (End Fault) → Type 0
+Checks rows named (Ok done) = IsSound rows named
+Checks rows named (Err (checks.Fault f)) = SourceFault rows named f
+Checks rows named (Err checks.Memory) = ⊤
+
+-- the answer is no refusal for a missing file, and nothing was read
+abbrev pub IsNoMiss : LoadEnd → Type 0
+IsNoMiss (ends.Refused refusal) = refusal.rule ≡ FileMissing → ⊥
+IsNoMiss ends.ReadFault = ⊥
+IsNoMiss ends.Memory = ⊤
+
+-- what is answered is the verdict on loaded files, unless memory ran out; nothing was read
+abbrev pub Says : List ℕ → Option (List ℕ) → List FileRow → Result FirstFile LoadEnd → Type 0
+Says main named rows (Ok file) = FilesHave main named rows (accepted file)
+Says main named rows (Err (ends.Refused refusal)) = FilesHave main named rows (rejected refusal)
+Says main named rows (Err ends.ReadFault) = ⊥
+Says main named rows (Err ends.Memory) = ⊤
 
 -- what is answered is the verdict on the source that the words name, given the files that there are, unless memory ran out or a read failed
 abbrev pub JudgesIn : World → WordsOf → Result FirstFile LoadEnd → Type 0

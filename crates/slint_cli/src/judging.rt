@@ -1,22 +1,24 @@
-ghost use Rattle.std.specs.Prelude.{◌≡◌, ℕ, List, IfOk, None, if◌then◌else◌};
+ghost use Rattle.std.specs.Prelude.{◌≡◌, ◌↔◌, ℕ, IfOk, IsTrue, None, if◌then◌else◌};
+ghost use Rattle.std.specs.Option.{option_copied};
+ghost use Rattle.source_lines.specs.Starts.{place_by};
 ghost use Rattle.io_edge.specs.Counts.{IsQuiet};
 ghost use Rattle.command_words.specs.Words.{words_seen};
-ghost use Rattle.file_exports.specs.Roots.{root_place};
 ghost use Rattle.import_resolver.specs.Ends.{IsRefusal, LoadCount};
-ghost use Rattle.import_resolver.specs.Loaded.{ShowFiles, rows_of};
-ghost use Rattle.import_resolver.specs.Loads.{Seen};
+ghost use Rattle.import_resolver.specs.Loaded.{rows_of};
+ghost use Rattle.slint_base.specs.declared.rules.Rule.TheVariants.{FileMissing, NotBuilt};
 ghost use Rattle.first_evaluator.specs.First.{first_source};
-ghost use Rattle.slint_meaning.specs.Runs.{at_main, if_first, if_rooted, of_files};
-ghost use Rattle.slint_cli.specs.Verdicts.{Judges, Says};
+ghost use Rattle.slint_meaning.specs.Verdicts.{IsSound, at_main, first_alone, refusal_in};
+ghost use Rattle.slint_cli.specs.Verdicts.{Checks, IsNoMiss, Judges, Says};
 
 use command_words::Words;
-use file_exports::root_place;
 use first_evaluator::{Component, component_of};
-use import_resolver::{LoadEnd, Loaded, load};
+use import_resolver::{LoadEnd, Loaded, SourceFile, load};
 use io_edge::Files;
-use slint_base::{Memory, Place, Refusal, Rule, Text};
+use loop_check::check_purity;
+use slint_base::{End, Fault, Memory, Name, Place, Refusal, Rule, Text};
+use source_lines::place_by;
 use std::alloc::Global;
-use syntax_tree::File;
+use type_resolver::resolve;
 
 /// The refusal of a source as a whole, for this rule: at the start of its main file.
 fn at_main(alloc: Global, rule: Rule, main: &str) -> Result<Refusal, Memory>
@@ -32,71 +34,139 @@ fn at_main(alloc: Global, rule: Rule, main: &str) -> Result<Refusal, Memory>
     })
 }
 
-/// Refuses a source as a whole, for this rule.
-fn refused(alloc: Global, rule: Rule, main: &str) -> LoadEnd
-    ensures { IsRefusal (at_main rule main.now) result }
+/// The place of a byte by the starts of the lines, of which there are fewer than a place can count.
+fn place_in(starts: &[u32], at: u32) -> Result<Place, Memory>
+    ensures { IfOk result (λ place. place ≡ place_by starts.now at) }
 {
-    match at_main(alloc, rule, main) {
+    if starts.len() >= 1 << 32 {
+        return Err(Memory);
+    }
+    Ok(place_by(starts, at))
+}
+
+/// The refusal for a fault in a file of this name.
+fn refusal_at(alloc: Global, name: &str, file: &SourceFile, fault: Fault) -> Result<Refusal, Memory>
+    ensures { IfOk result (λ refusal. refusal ≡ record {
+      rule = fault.rule;
+      file = name.now;
+      from = place_by file.now.line_starts.items fault.span.start;
+      to = place_by file.now.line_starts.items fault.span.end;
+    }) }
+{
+    let from = place_in(file.line_starts.as_slice(), fault.span.start)?;
+    let to = place_in(file.line_starts.as_slice(), fault.span.end)?;
+    let file = Text::from_str(alloc, name)?;
+    Ok(Refusal {
+        rule: fault.rule,
+        file,
+        from,
+        to,
+    })
+}
+
+/// The refusal for a fault of a loaded source.
+fn refusal_in(alloc: Global, loaded: &Loaded, main: &str, fault: Fault) -> Result<Refusal, Memory>
+    ensures { IfOk result (λ refusal. refusal ≡ refusal_in main.now (rows_of loaded.now) fault) }
+{
+    match loaded.files.get_index(fault.span.file as usize) {
+        Some((name, file)) => refusal_at(alloc, name.as_str(), file, fault),
+        None => at_main(alloc, fault.rule, main),
+    }
+}
+
+/// Whether a rule is the one on missing files.
+fn is_of_missing(rule: Rule) -> bool
+    ensures { IsTrue result ↔ (rule ≡ FileMissing) }
+{
+    match rule {
+        Rule::FileMissing => true,
+        _ => false,
+    }
+}
+
+/// Refuses a loaded source for a fault.
+fn refuse(alloc: Global, loaded: &Loaded, main: &str, fault: Fault) -> LoadEnd
+    ensures is { IsRefusal (refusal_in main.now (rows_of loaded.now) fault) result }
+    ensures other { IsNoMiss result }
+{
+    // A loaded source lacks no file: this rule is none of those on names, types and purity.
+    if is_of_missing(fault.rule) {
+        return LoadEnd::Memory;
+    }
+    match refusal_in(alloc, loaded, main, fault) {
         Ok(refusal) => LoadEnd::Refused(refusal),
         Err(Memory) => LoadEnd::Memory,
     }
 }
 
-/// The component of a main file's tree, which is all that there is where the file is alone; none where the source is outside the language
-/// as far as it is built.
-fn first_component(alloc: Global, tree: &File, is_alone: bool) -> Result<Option<Component>, Memory>
-    ensures { IfOk result (λ found. found ≡ (if is_alone then first_source tree.now else None)) }
+/// Refuses a source as a whole, since it isn't in the language as far as it is run.
+fn not_built(alloc: Global, main: &str) -> LoadEnd
+    ensures is { IsRefusal (at_main NotBuilt main.now) result }
+    ensures other { IsNoMiss result }
+{
+    match at_main(alloc, Rule::NotBuilt, main) {
+        Ok(refusal) => LoadEnd::Refused(refusal),
+        Err(Memory) => LoadEnd::Memory,
+    }
+}
+
+/// Whether a loaded source keeps the rules on names, types and purity: its first fault, if it has one.
+fn check_source(alloc: Global, loaded: &Loaded, named: Option<&Name>) -> Result<(), End<Fault>>
+    ensures { Checks (rows_of loaded.now) (option_copied named.entry) result }
+{
+    match resolve(alloc, loaded, named) {
+        Ok(tree) => check_purity(alloc, &tree),
+        Err(end) => Err(end),
+    }
+}
+
+/// The component of a source of one file; none where there are more, and where the source is outside the language as far as it is run.
+fn first_component(alloc: Global, loaded: &Loaded) -> Result<Option<Component>, Memory>
+    ensures { IfOk result (λ found. found ≡ first_alone (rows_of loaded.now)) }
+{
+    match loaded.files.as_slice().split_first() {
+        Some(((_name, file), others)) => component_alone(alloc, file, others.is_empty()),
+        None => Ok(None),
+    }
+}
+
+/// The component of a file, where it is alone.
+fn component_alone(
+    alloc: Global,
+    file: &SourceFile,
+    is_alone: bool,
+) -> Result<Option<Component>, Memory>
+    ensures { IfOk result (λ found. found ≡ (if is_alone then first_source file.now.tree else None)) }
 {
     if is_alone {
-        component_of(alloc, tree)
+        component_of(alloc, &file.tree)
     } else {
         Ok(None)
     }
 }
 
-/// The component of a main file's tree that has the root which the words ask for.
-fn judge_rooted(
-    alloc: Global,
-    main: &str,
-    tree: &File,
-    is_alone: bool,
-) -> Result<Component, LoadEnd>
-    ensures says { Says (if_first main.now (if is_alone then first_source tree.now else None)) result }
+/// The component of a source that keeps the rules.
+fn judge_sound(alloc: Global, words: &Words, loaded: &Loaded) -> Result<Component, LoadEnd>
+    requires sound { IsSound (rows_of loaded.now) words.now.component }
+    ensures says { Says words.now.file words.now.component (rows_of loaded.now) result }
     ensures still { (faults misses : ℕ) → LoadCount result faults faults misses misses }
 {
-    let found = first_component(alloc, tree, is_alone)?;
-    match found {
-        Some(component) => Ok(component),
-        None => Err(refused(alloc, Rule::NotBuilt, main)),
-    }
-}
-
-/// The component of a main file's tree.
-fn judge_main(
-    alloc: Global,
-    words: &Words,
-    tree: &File,
-    is_alone: bool,
-) -> Result<Component, LoadEnd>
-    ensures says { Says (if_rooted words.now.file (root_place words.now.component tree.now.items) (if is_alone then first_source tree.now else None)) result }
-    ensures still { (faults misses : ℕ) → LoadCount result faults faults misses misses }
-{
-    let main = words.file.as_str();
-    let root = root_place(alloc, tree.items.as_slice(), words.component.as_ref())?;
-    match root {
-        Some(_place) => judge_rooted(alloc, main, tree, is_alone),
-        None => Err(refused(alloc, Rule::NoComponent, main)),
+    match first_component(alloc, loaded) {
+        Ok(Some(component)) => Ok(component),
+        Ok(None) => Err(not_built(alloc, words.file.as_str())),
+        Err(Memory) => Err(LoadEnd::Memory),
     }
 }
 
 /// The component of a loaded source, the first file of which is the main one.
 fn judge_files(alloc: Global, words: &Words, loaded: &Loaded) -> Result<Component, LoadEnd>
-    ensures says { (seen : List Seen) → ShowFiles words.now.file seen seen (rows_of loaded.now) → Says (of_files words.now.file words.now.component seen) result }
+    ensures says { Says words.now.file words.now.component (rows_of loaded.now) result }
     ensures still { (faults misses : ℕ) → LoadCount result faults faults misses misses }
 {
-    match loaded.files.as_slice().split_first() {
-        Some(((_name, file), others)) => judge_main(alloc, words, &file.tree, others.is_empty()),
-        None => Err(refused(alloc, Rule::NoComponent, words.file.as_str())),
+    match check_source(alloc, loaded, words.component.as_ref()) {
+        Ok(()) => judge_sound(alloc, words, loaded),
+        Err(End::Fault(fault)) => Err(refuse(alloc, loaded, words.file.as_str(), fault)),
+        Err(End::Memory) => Err(LoadEnd::Memory),
     }
 }
 
@@ -104,8 +174,8 @@ fn judge_files(alloc: Global, words: &Words, loaded: &Loaded) -> Result<Componen
 ///
 /// # Errors
 ///
-/// `Refused` with the first fault of the files; where the main file has no such component, with the rule on that; and where the source is
-/// outside the language as far as it is built. `ReadFault` where a file couldn't be read; `Memory`.
+/// `Refused` with the first fault of the files; then with the first fault of names, types or purity, that of a main file without such a component among them; and
+/// where the source is outside the language as far as it is run. `ReadFault` where a file couldn't be read; `Memory`.
 pub(crate) fn judge<F: Files>(
     alloc: Global,
     files: &mut F,
