@@ -236,7 +236,7 @@ fn reads_words(rt: HostRuntime) -> Result<(), Fail> {
 #[test]
 fn takes_a_file_of_two_names_once(rt: HostRuntime) -> Result<(), Fail> {
     let source =
-        "import { B } from \"x/../b.slint\"; import { B } from \"./b.slint\"; component A { }";
+        "import { B } from \"x/../b.slint\"; import { B as C } from \"./b.slint\"; component A { }";
     for (call, status, want) in [
         (0, Status::Stopped(Stop::ReadFault), ""),
         (1, Status::Stopped(Stop::ReadFault), ""),
@@ -295,12 +295,14 @@ fn loads_at_most_64_files(rt: HostRuntime) -> Result<(), Fail> {
     let alloc = rt.alloc();
     for (count, want) in [
         (63u32, "refused 90 main.slint 1:1-1:1\n"),
-        (64, "refused 23 main.slint 64:19-64:30\n"),
+        (64, "refused 23 main.slint 64:26-64:37\n"),
     ] {
         let mut source = String::new(alloc);
         let mut others = Vec::new(alloc);
         for number in 1..count + 1 {
-            let line = format!(in alloc; "import {{ C }} from \"f{number}.slint\";\n")?;
+            let line = format!(in alloc;
+                "import {{ C as C{number} }} from \"f{number}.slint\";\n"
+            )?;
             source.push_str(line.as_str())?;
             let name = format!(in alloc; "f{number}.slint")?;
             others.push(file(alloc, name.as_str(), "export component C { }")?)?;

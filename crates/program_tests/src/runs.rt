@@ -208,7 +208,7 @@ fn judges_sources(rt: HostRuntime) -> Result<(), Fail> {
             &["main.slint"],
             Some("component A { property <int> a: zz; }"),
             REFUSED,
-            "refused 90 main.slint 1:1-1:1\n",
+            "refused 34 main.slint 1:33-1:35\n",
         ),
         (
             &["main.slint"],
@@ -220,13 +220,13 @@ fn judges_sources(rt: HostRuntime) -> Result<(), Fail> {
             &["main.slint"],
             Some("component A { property <int> a: 1; property <int> a: 1; }"),
             REFUSED,
-            "refused 90 main.slint 1:1-1:1\n",
+            "refused 30 main.slint 1:51-1:52\n",
         ),
         (
             &["main.slint"],
             Some("component A { property <int> self: 1; property <int> a: self; }"),
             REFUSED,
-            "refused 90 main.slint 1:1-1:1\n",
+            "refused 40 main.slint 1:57-1:61\n",
         ),
         (
             &["main.slint"],
