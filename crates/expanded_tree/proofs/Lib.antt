@@ -1,0 +1,2 @@
+pub mod FurtherIn
+pub mod LayerLemmas

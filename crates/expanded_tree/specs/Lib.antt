@@ -1,0 +1,10 @@
+pub mod Bodies
+pub mod Components
+pub mod Items
+pub mod Limits
+pub mod Members
+pub mod Order
+pub mod Places
+pub mod Repeaters
+pub mod Sizes
+pub mod Trees
