@@ -1,0 +1,8 @@
+use Rattle.std.proofs.Common.{◌≡◌, ◌++◌, take}
+use Rattle.std.specs.List.{flat_map}
+use Rattle.expr_reads.specs.Items.{named_state}
+use Rattle.expr_reads.proofs.item_names.add_states.Given as goal
+
+-- the names so far
+abbrev pub invariant-loop-state : goal.invariant-loop-state
+invariant-loop-state l = l.found ≡ l.initial.found ++ flat_map named_state (take l.state-index l.states)

@@ -1,0 +1,4 @@
+pub mod Items
+pub mod ItemsMayName
+pub mod MayName
+pub mod Names
