@@ -1,0 +1,11 @@
+mod Bodies
+mod Children
+mod Declaring
+mod Expressions
+mod Fields
+mod Items
+mod Judgements
+mod Names
+mod Others
+mod Results
+mod Sources
