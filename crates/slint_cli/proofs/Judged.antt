@@ -19,8 +19,8 @@ use Rattle.import_resolver.specs.Ends.{IsRefusal, LoadCount}
 use Rattle.import_resolver.specs.Loaded.{FileRow, LoadsSome, row_of, rows_of, rows_seen}
 use Rattle.import_resolver.specs.Loads.{World, State, Goes, Stops, LoadsMain}
 use Rattle.typed_tree.specs.declared.trees.TypedTree.{TypedTree}
-use Rattle.type_resolver.specs.Resolves.{IsResolved, Resolves}
-use Rattle.loop_check.specs.Purity.{ChecksPurity}
+use Rattle.type_resolver.specs.Resolves.{IsBroken, IsResolved, Resolves}
+use Rattle.loop_check.specs.Purity.{ChecksPurity, PurityFault}
 use Rattle.first_evaluator.specs.declared.trees.FirstFile.{FirstFile}
 use Rattle.first_evaluator.specs.First.{first_source}
 use Rattle.slint_meaning.specs.Verdicts.{rejected, at_main, refusal_at, refusal_in, SourceFault, of_names, of_purity, IsSound, sound, first_alone, if_first, with_fault, without_fault}
@@ -77,6 +77,12 @@ refused_other main rows f refusal is other e = other (sym (refusal_rule main (sl
 -- and neither is a refusal of the source as a whole, since it isn't in the language as far as it is run
 pub built_other : (main : List ℕ) (refusal : Refusal) → refusal ≡ at_main NotBuilt main → refusal.rule ≡ FileMissing → ⊥
 built_other main refusal is e = let no : NotBuilt ≡ FileMissing = sym (ap (λ (r : Refusal). r.rule) is) ∙ e in absurd cc
+
+-- a fault that is told of loaded files is of another rule
+pub other_fault : ((rows : List FileRow) (named : Option (List ℕ)) (f : Fault) → IsBroken rows named f → f.rule ≡ FileMissing → ⊥) → ((tree : TypedTree) (f : Fault) → PurityFault tree f → f.rule ≡ FileMissing → ⊥)
+    → (rows : List FileRow) (named : Option (List ℕ)) (f : Fault) → SourceFault rows named f → f.rule ≡ FileMissing → ⊥
+other_fault names purity rows named f (of_names p) = names rows named f p
+other_fault names purity rows named f (of_purity {tree = tree} r p) = purity tree f p.has
 
 -- files with a fault
 pub says_fault : (main : List ℕ) (named : Option (List ℕ)) (rows : List FileRow) (f : Fault) (end : LoadEnd) → SourceFault rows named f → IsRefusal (refusal_in main rows f) end → Says main named rows (Err end)

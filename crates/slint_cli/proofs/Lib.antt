@@ -1,3 +1,4 @@
+mod FewLines
 pub mod Judged
 pub mod LineRuns
 pub mod NameLookups

@@ -9,7 +9,6 @@ use Rattle.slint_base.specs.declared.refusals.Refusal.{Refusal}
 use Rattle.slint_base.specs.declared.rules.Rule.{Rule}
 use Rattle.slint_base.specs.declared.rules.Rule.TheVariants.{NotUtf8, BadToken, BadNumber, BadEscape, Syntax, TooDeep, FileMissing, ImportLoop, NotExported, TooManyFiles, FileTooLong, PathOutside, NameTwice, UnknownType, UnknownElement, BaseLoop, UnknownName, Visibility, ChildrenMisplaced, GridPlace, NoComponent, TypeMismatch, NoOperator, ArgCount, NotCallable, NotAssignable, AliasTypes, UnitProduct, NotConstant, ImpureBinding, PureCallsImpure, AliasLoop, TwoStateLists, BindingLoop, Recursion, TooManyElements, RepeaterDepth, NotBuilt}
 use Rattle.slint_base.specs.Refusals.{refusal_line}
-use Rattle.slint_base.specs.Rules.{rule_number}
 use Rattle.io_edge.specs.Counts.{Rose}
 use Rattle.io_edge.specs.Files.{FileList, bytes_named}
 use Rattle.command_words.specs.declared.reading.Words.{Words}
@@ -22,7 +21,7 @@ use Rattle.first_evaluator.specs.declared.trees.FirstFile.{FirstFile}
 use Rattle.slint_meaning.specs.declared.endings.Ending.TheVariants.{Refused}
 use Rattle.slint_meaning.specs.Commands.{written}
 use Rattle.slint_meaning.specs.Runs.{Outcome, unreadable}
-use Rattle.slint_meaning.specs.Verdicts.{Verdict, accepted, rejected, HasVerdict, LoadHas}
+use Rattle.slint_meaning.specs.Verdicts.{accepted, rejected, HasVerdict, LoadHas}
 use Rattle.slint_cli.specs.Running.{MissedFile, MissedWhereMissing, RanScript, RanWords, Tells}
 use Rattle.slint_cli.specs.Verdicts.{Judges}
 use Rattle.slint_cli.specs.declared.replies.Output.{Output}

@@ -1,5 +1,5 @@
 -- What an answer on a source says of its verdict.
-use Rattle.std.specs.Prelude.{◌≡◌, ⊤, List, ℕ, Option, Result, Ok, Err}
+use Rattle.std.specs.Prelude.{◌≡◌, ◌<◌, ◌^◌, ⊤, List, ℕ, length, slice_get, Option, Some, Result, Ok, Err}
 use Rattle.slint_base.specs.declared.endings.End.{End}
 use Rattle.slint_base.specs.declared.endings.End.TheVariants as checks
 use Rattle.slint_base.specs.declared.faults.Fault.{Fault}
@@ -11,7 +11,7 @@ use Rattle.import_resolver.specs.declared.ends.LoadEnd.TheVariants as ends
 use Rattle.import_resolver.specs.Loaded.{FileRow}
 use Rattle.import_resolver.specs.Loads.{World}
 use Rattle.first_evaluator.specs.declared.trees.FirstFile.{FirstFile}
-use Rattle.slint_meaning.specs.Verdicts.{Verdict, accepted, rejected, FilesHave, HasVerdict, IsSound, SourceFault}
+use Rattle.slint_meaning.specs.Verdicts.{accepted, rejected, FilesHave, HasVerdict, IsSound, SourceFault}
 use Rattle.slint_cli.specs.Running.{Tells}
 
 -- loaded files have no fault of names, types or purity, or this is the one that is told, unless memory ran out
@@ -19,6 +19,10 @@ abbrev pub Checks : List FileRow → Option (List ℕ) → Result (Unit {0}) (En
 Checks rows named (Ok done) = IsSound rows named
 Checks rows named (Err (checks.Fault f)) = SourceFault rows named f
 Checks rows named (Err checks.Memory) = ⊤
+
+-- each file has fewer lines than the number of a line can count
+abbrev pub FewLines : List FileRow → Type 0
+FewLines rows = (n : ℕ) (row : FileRow) → slice_get rows n ≡ Some row → length row.starts < 2 ^ 32
 
 -- the answer is no refusal for a missing file, and nothing was read
 abbrev pub IsNoMiss : LoadEnd → Type 0

@@ -1,4 +1,4 @@
-ghost use Rattle.std.specs.Prelude.{◌≡◌, ◌↔◌, ℕ, IfOk, IsTrue, None, if◌then◌else◌};
+ghost use Rattle.std.specs.Prelude.{◌≡◌, ◌<◌, ◌^◌, ℕ, IfOk, None, if◌then◌else◌, length};
 ghost use Rattle.std.specs.Option.{option_copied};
 ghost use Rattle.source_lines.specs.Starts.{place_by};
 ghost use Rattle.io_edge.specs.Counts.{IsQuiet};
@@ -8,7 +8,7 @@ ghost use Rattle.import_resolver.specs.Loaded.{rows_of};
 ghost use Rattle.slint_base.specs.declared.rules.Rule.TheVariants.{FileMissing, NotBuilt};
 ghost use Rattle.first_evaluator.specs.First.{first_source};
 ghost use Rattle.slint_meaning.specs.Verdicts.{IsSound, at_main, first_alone, refusal_in};
-ghost use Rattle.slint_cli.specs.Verdicts.{Checks, IsNoMiss, Judges, Says};
+ghost use Rattle.slint_cli.specs.Verdicts.{Checks, FewLines, IsNoMiss, Judges, Says};
 
 use command_words::Words;
 use first_evaluator::{Component, component_of};
@@ -16,6 +16,7 @@ use import_resolver::{LoadEnd, Loaded, SourceFile, load};
 use io_edge::Files;
 use loop_check::check_purity;
 use slint_base::{End, Fault, Memory, Name, Place, Refusal, Rule, Text};
+use source_faults::{no_fault_misses_a_file, no_impurity_misses_a_file};
 use source_lines::place_by;
 use std::alloc::Global;
 use type_resolver::resolve;
@@ -34,18 +35,9 @@ fn at_main(alloc: Global, rule: Rule, main: &str) -> Result<Refusal, Memory>
     })
 }
 
-/// The place of a byte by the starts of the lines, of which there are fewer than a place can count.
-fn place_in(starts: &[u32], at: u32) -> Result<Place, Memory>
-    ensures { IfOk result (λ place. place ≡ place_by starts.now at) }
-{
-    if starts.len() >= 1 << 32 {
-        return Err(Memory);
-    }
-    Ok(place_by(starts, at))
-}
-
 /// The refusal for a fault in a file of this name.
 fn refusal_at(alloc: Global, name: &str, file: &SourceFile, fault: Fault) -> Result<Refusal, Memory>
+    requires few { length file.now.line_starts.items < 2 ^ 32 }
     ensures { IfOk result (λ refusal. refusal ≡ record {
       rule = fault.rule;
       file = name.now;
@@ -53,8 +45,8 @@ fn refusal_at(alloc: Global, name: &str, file: &SourceFile, fault: Fault) -> Res
       to = place_by file.now.line_starts.items fault.span.end;
     }) }
 {
-    let from = place_in(file.line_starts.as_slice(), fault.span.start)?;
-    let to = place_in(file.line_starts.as_slice(), fault.span.end)?;
+    let from = place_by(file.line_starts.as_slice(), fault.span.start);
+    let to = place_by(file.line_starts.as_slice(), fault.span.end);
     let file = Text::from_str(alloc, name)?;
     Ok(Refusal {
         rule: fault.rule,
@@ -66,6 +58,7 @@ fn refusal_at(alloc: Global, name: &str, file: &SourceFile, fault: Fault) -> Res
 
 /// The refusal for a fault of a loaded source.
 fn refusal_in(alloc: Global, loaded: &Loaded, main: &str, fault: Fault) -> Result<Refusal, Memory>
+    requires few { FewLines (rows_of loaded.now) }
     ensures { IfOk result (λ refusal. refusal ≡ refusal_in main.now (rows_of loaded.now) fault) }
 {
     match loaded.files.get_index(fault.span.file as usize) {
@@ -74,25 +67,13 @@ fn refusal_in(alloc: Global, loaded: &Loaded, main: &str, fault: Fault) -> Resul
     }
 }
 
-/// Whether a rule is the one on missing files.
-fn is_of_missing(rule: Rule) -> bool
-    ensures { IsTrue result ↔ (rule ≡ FileMissing) }
-{
-    match rule {
-        Rule::FileMissing => true,
-        _ => false,
-    }
-}
-
-/// Refuses a loaded source for a fault.
+/// Refuses a loaded source for a fault, which is none of a missing file: a loaded source lacks none.
 fn refuse(alloc: Global, loaded: &Loaded, main: &str, fault: Fault) -> LoadEnd
+    requires few { FewLines (rows_of loaded.now) }
+    requires other { fault.rule ≡ FileMissing → ⊥ }
     ensures is { IsRefusal (refusal_in main.now (rows_of loaded.now) fault) result }
     ensures other { IsNoMiss result }
 {
-    // A loaded source lacks no file: this rule is none of those on names, types and purity.
-    if is_of_missing(fault.rule) {
-        return LoadEnd::Memory;
-    }
     match refusal_in(alloc, loaded, main, fault) {
         Ok(refusal) => LoadEnd::Refused(refusal),
         Err(Memory) => LoadEnd::Memory,
@@ -160,9 +141,12 @@ fn judge_sound(alloc: Global, words: &Words, loaded: &Loaded) -> Result<Componen
 
 /// The component of a loaded source, the first file of which is the main one.
 fn judge_files(alloc: Global, words: &Words, loaded: &Loaded) -> Result<Component, LoadEnd>
+    requires few { FewLines (rows_of loaded.now) }
     ensures says { Says words.now.file words.now.component (rows_of loaded.now) result }
     ensures still { (faults misses : ℕ) → LoadCount result faults faults misses misses }
 {
+    no_fault_misses_a_file();
+    no_impurity_misses_a_file();
     match check_source(alloc, loaded, words.component.as_ref()) {
         Ok(()) => judge_sound(alloc, words, loaded),
         Err(End::Fault(fault)) => Err(refuse(alloc, loaded, words.file.as_str(), fault)),

@@ -1,4 +1,4 @@
-use Rattle.std.proofs.Common.{◌∷◌, List, ap, length, map, sym, ◌∙◌}
+use Rattle.std.proofs.Common.{ap, length, map, sym, ◌∙◌}
 use Rattle.std.proofs.lemmas.List.{length-map}
 use Rattle.import_resolver.specs.Loaded.{row_of, rows_of}
 use Rattle.slint_cli.proofs.Judged.{found_alone, none_alone, none_by}

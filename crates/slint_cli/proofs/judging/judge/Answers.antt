@@ -1,7 +1,11 @@
 use Rattle.std.proofs.lemmas.Result.{err_from_is_err_and}
 use Rattle.command_words.specs.Words.{words_seen}
 use Rattle.slint_cli.proofs.Judged.{judges_loaded, judges_stopped, counted_loaded, counted_stopped}
+use Rattle.slint_cli.proofs.FewLines.{few_loaded}
 use Rattle.slint_cli.proofs.judging.judge.Goals as goal
+
+pub judge_files-requires : goal.judge_files-requires
+judge_files-requires g c = record { few = few_loaded (g.F.Files.held c.args.files.now) c.as_str.result.now c.in_ok-loaded.loaded c.in_ok-loaded.ensures.loads }
 
 pub returns-in_err-loaded-clause-judged : goal.returns-in_err-loaded-clause-judged
 returns-in_err-loaded-clause-judged g c =

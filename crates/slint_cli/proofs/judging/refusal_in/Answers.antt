@@ -3,6 +3,11 @@ use Rattle.import_resolver.specs.Loaded.{row_of, rows_of}
 use Rattle.slint_cli.proofs.Judged.{refused_by_row, row_found}
 use Rattle.slint_cli.proofs.judging.refusal_in.Goals as goal
 
+pub refusal_at-requires : goal.refusal_at-requires
+refusal_at-requires c =
+    let row = row_found c.args.loaded.now.files.entries c.args.fault.span.file (Some (c.in-Some.name.now, c.in-Some.file.now)) (sym c.in-Some.ensures.entry) in
+    record { few = c.requires.few c.args.fault.span.file (row_of (c.in-Some.name.now, c.in-Some.file.now)) row }
+
 pub returns-in-Some : goal.returns-in-Some
 returns-in-Some c =
     let row = row_found c.args.loaded.now.files.entries c.args.fault.span.file (Some (c.in-Some.name.now, c.in-Some.file.now)) (sym c.in-Some.ensures.entry) in

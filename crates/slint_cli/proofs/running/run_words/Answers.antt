@@ -1,6 +1,6 @@
-use Rattle.std.proofs.Common.{◌≡◌, Option, Some, map, string_bytes, subst}
+use Rattle.std.proofs.Common.{Option, map, string_bytes, subst}
 use Rattle.std.specs.Prelude.{IfOk, OnOk}
-use Rattle.command_words.specs.Words.{WordsOf, words_of, words_seen}
+use Rattle.command_words.specs.Words.{WordsOf, words_of}
 use Rattle.slint_cli.specs.declared.replies.Output.{Output}
 use Rattle.slint_cli.specs.Outputs.{outcome_of}
 use Rattle.slint_cli.specs.Running.{MissedWhereMissing, RanWords}
