@@ -160,7 +160,7 @@ impl<'a> Expanded<'a> {
     }
 
     /// Of how many components' bodies a component consists, its own and those of its bases.
-    fn height_at(&self, component: usize) -> usize
+    pub fn height_at(&self, component: usize) -> usize
         ensures { result ≡ height_at self.now.heights component }
     {
         match at(self.heights.as_slice(), component) {
