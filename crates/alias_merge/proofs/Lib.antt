@@ -1,0 +1,16 @@
+pub mod Aheads
+pub mod Changing
+pub mod Choices
+pub mod CircleMarks
+pub mod Filters
+pub mod Grouping
+pub mod InTurn
+pub mod Labelling
+pub mod Listing
+pub mod Merging
+pub mod Numbering
+pub mod OneChoice
+pub mod OneMerge
+pub mod Passes
+pub mod Seating
+pub mod Sooner

@@ -1,0 +1,8 @@
+use Rattle.std.proofs.Common.{◌≡◌, ◌++◌, take}
+use Rattle.alias_merge.specs.Candidates.{numbered_all}
+use Rattle.alias_merge.specs.Rows.{rows_of_global}
+use Rattle.alias_merge.proofs.rows.add_globals.Given as goal
+
+-- what there is so far
+abbrev pub invariant-loop-number : goal.invariant-loop-number
+invariant-loop-number l = l.rows ≡ l.initial.rows ++ numbered_all rows_of_global 0 (take l.number l.globals)

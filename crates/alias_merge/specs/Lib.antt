@@ -1,0 +1,14 @@
+pub mod Candidates
+pub mod ChangeLists
+pub mod Changes
+pub mod ChangesSteps
+pub mod Choosing
+pub mod ChoosingSteps
+pub mod CircleFaults
+pub mod ClassesValues
+pub mod Homes
+pub mod Labels
+pub mod Links
+pub mod Merged
+pub mod Numbers
+pub mod Rows
