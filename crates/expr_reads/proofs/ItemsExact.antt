@@ -67,7 +67,7 @@ in_rows : (f : TypedFor) (r : RowSource) {n : Named} → f.rows ≡ r → In n (
 in_rows f r {n} is h = let P : RowSource → Type 0 = λ z. In n (named_rows z) in subst P (sym is) h
 
 listed_repeat : {r : TypedRepeat} {n : Named} → RepeatMayName r n → In n (named_repeat r)
-listed_repeat (holds e h) = listed h
+listed_repeat (holds e s h) = listed h
 listed_repeat (rows_of f m is) = in_rows f (sources.Property m) is here
 listed_repeat (array f e is h) = in_rows f (sources.Array e) is (listed h)
 listed_repeat (count f e is h) = in_rows f (sources.Count e) is (listed h)
@@ -82,7 +82,7 @@ by_rows f (sources.Count e) {n} is h = count f e is (found e n h)
 
 found_repeat : (r : TypedRepeat) (n : Named) → In n (named_repeat r) → RepeatMayName r n
 found_repeat repeats.Once n h = absurd (in_none h)
-found_repeat (repeats.If e) n h = holds e (found e n h)
+found_repeat (repeats.If e s) n h = holds e s (found e n h)
 found_repeat (repeats.For f) n h = by_rows f f.rows refl h
 
 pub exact_repeats : RepeatNamesAreExact

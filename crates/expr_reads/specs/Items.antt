@@ -33,7 +33,7 @@ named_rows (sources.Count e) = named e
 -- how often an element is there
 abbrev pub named_repeat : TypedRepeat → Names
 named_repeat repeats.Once = []
-named_repeat (repeats.If condition) = named condition
+named_repeat (repeats.If condition span) = named condition
 named_repeat (repeats.For model) = named_rows model.rows
 
 -- an item of a body; a link joins two members, and reads neither

@@ -1,5 +1,6 @@
 -- What items, models and conditions may name, said once more as a relation: a case for each form and part.
 use Rattle.std.specs.Prelude.{◌≡◌, ◌↔◌, Some}
+use Rattle.slint_base.specs.declared.faults.Span.{Span}
 use Rattle.typed_tree.specs.declared.expressions.TypedExpr.{TypedExpr}
 use Rattle.typed_tree.specs.declared.members.MemberRef.{MemberRef}
 use Rattle.typed_tree.specs.declared.trees.RowSource.TheVariants as sources
@@ -32,7 +33,7 @@ pub data ItemMayName : TypedItem → Named → Type 0 where
 
 -- a model or a condition may name this
 pub data RepeatMayName : TypedRepeat → Named → Type 0 where
-  holds : (e : TypedExpr) {n : Named} → MayName e n → RepeatMayName (repeats.If e) n
+  holds : (e : TypedExpr) (s : Span) {n : Named} → MayName e n → RepeatMayName (repeats.If e s) n
   rows_of : (f : TypedFor) (m : MemberRef) → f.rows ≡ sources.Property m → RepeatMayName (repeats.For f) (names.Property m)
   array : (f : TypedFor) (e : TypedExpr) {n : Named} → f.rows ≡ sources.Array e → MayName e n → RepeatMayName (repeats.For f) n
   count : (f : TypedFor) (e : TypedExpr) {n : Named} → f.rows ≡ sources.Count e → MayName e n → RepeatMayName (repeats.For f) n

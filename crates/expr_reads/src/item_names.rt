@@ -95,7 +95,7 @@ pub fn named_in_repeat(repeat: &TypedRepeat, found: &mut Items<Named>) -> Result
 {
     match repeat {
         TypedRepeat::Once => Ok(()),
-        TypedRepeat::If(condition) => named_in_expr(condition, found),
+        TypedRepeat::If(condition, _) => named_in_expr(condition, found),
         TypedRepeat::For(model) => add_rows(&model.rows, found),
     }
 }

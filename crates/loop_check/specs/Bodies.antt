@@ -77,7 +77,7 @@ bodies_of_rows (row_source.Count count) = body_of_expr count
 
 abbrev pub bodies_of_repeat : TypedRepeat → List Body
 bodies_of_repeat repeats.Once = []
-bodies_of_repeat (repeats.If condition) = body_of_expr condition
+bodies_of_repeat (repeats.If condition span) = body_of_expr condition
 bodies_of_repeat (repeats.For for) = bodies_of_rows for.rows
 
 abbrev pub bodies_of_element : Home → TypedElement → List Body

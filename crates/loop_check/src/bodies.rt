@@ -240,7 +240,7 @@ fn add_repeat(alloc: Global, bodies: &mut Items<Body>, repeat: &TypedRepeat) -> 
 {
     match repeat {
         TypedRepeat::Once => Ok(()),
-        TypedRepeat::If(condition) => add_expr(alloc, bodies, condition),
+        TypedRepeat::If(condition, _) => add_expr(alloc, bodies, condition),
         TypedRepeat::For(repeated) => add_rows(alloc, bodies, &repeated.rows),
     }
 }

@@ -4,6 +4,7 @@ use Rattle.syntax_tree.specs.declared.expressions.Expr.{Expr}
 use Rattle.syntax_tree.specs.declared.items.For.{For, out-For}
 use Rattle.syntax_tree.specs.declared.items.IfElement.{out-IfElement}
 use Rattle.syntax_tree.specs.declared.items.Item.{Item}
+use Rattle.syntax_tree.specs.Spans.{expr_span}
 use Rattle.typed_tree.specs.declared.outlines.Outline.{Outline}
 use Rattle.typed_tree.specs.declared.scopes.RowNames.{RowNames}
 use Rattle.typed_tree.specs.declared.scopes.Site.{Site}
@@ -47,7 +48,7 @@ body outline here rows items = made (each (item_in outline here rows) items) som
 
 -- an element that is there while a condition holds, and one that is there for each row of a model, which puts its names before the others
 abbrev pub while_holds : Outline → Site → Expr → List RowNames → Judging Inside
-while_holds outline around condition rows = made (condition_in outline around rows condition) (λ t. record { repeat = repeats.If t; rows = rows })
+while_holds outline around condition rows = made (condition_in outline around rows condition) (λ t. record { repeat = repeats.If t (expr_span condition); rows = rows })
 
 abbrev pub in_each_row : ℕ → For → List RowNames → TypedFor → Inside
 in_each_row e f rows t = record { repeat = repeats.For t; rows = row_names e f t ∷ rows }

@@ -60,7 +60,8 @@ fn judge_condition(
     match type_condition(alloc, names, around, rows, condition) {
         Ok(typed) => {
             let rows = copy_rows(alloc, rows)?;
-            let repeat = TypedRepeat::If(typed);
+            let span = condition.span();
+            let repeat = TypedRepeat::If(typed, span);
             Ok(Ok(Inside { repeat, rows }))
         }
         Err(End::Fault(fault)) => Ok(Err(fault)),

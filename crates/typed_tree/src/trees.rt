@@ -41,8 +41,8 @@ pub struct TypedElement {
 #[derive(Drop)]
 pub enum TypedRepeat {
     Once,
-    /// While a condition holds.
-    If(TypedExpr),
+    /// While a condition holds; and the stretch of the condition, parentheses around it included.
+    If(TypedExpr, Span),
     For(TypedFor),
 }
 

@@ -15,4 +15,4 @@ pub returns-in_ok-rows-in-Ok : goal.returns-in_ok-rows-in-Ok
 returns-in_ok-rows-in-Ok c =
     held c.args.names.now c.args.around c.args.condition.now c.args.rows.now
     (record { one = c.one_condition.ensures.one c.args.names.now c.args.around c.args.rows.now c.args.condition.now; apart = c.one_condition.ensures.no_fault c.args.names.now c.args.around c.args.rows.now c.args.condition.now })
-    c.in-Ok.is c.type_condition.ensures c.in_ok-rows-in-Ok.ensures
+    c.in-Ok.is c.type_condition.ensures c.in_ok-rows-in-Ok.ensures c.span-span.ensures
