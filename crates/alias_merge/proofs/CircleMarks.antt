@@ -19,14 +19,14 @@ use Rattle.alias_merge.specs.CircleFaults.{CircleFault, EndsWithin, edge_in, fau
 abbrev fault_at : Rule → Spanned → Fault
 fault_at rule s = record { rule = rule; span = s.span }
 
-none_in : (f : Fault) → Contains [] f → ⊥
+pub none_in : (f : Fault) → Contains [] f → ⊥
 none_in f c = omega (arith, c.1)
 
 or_absurd : (f : Fault) {A : Type 0} → Contains [] f ⊎ A → A
 or_absurd f (inl c) = absurd (none_in f c)
 or_absurd f (inr a) = a
 
-only_one : (g f : Fault) → Contains (g ∷ []) f → g ≡ f
+pub only_one : (g f : Fault) → Contains (g ∷ []) f → g ≡ f
 only_one g f c = or_absurd f (Contains-push_cases [] g f c)
 
 told_is : (b : Bool) (rule : Rule) (span : Span) (f : Fault) → Contains (fault_if_set rule b span) f → (b ≡ true) × (f ≡ record { rule = rule; span = span })

@@ -5,6 +5,7 @@ pub mod ChangesSteps
 pub mod Choosing
 pub mod ChoosingSteps
 pub mod CircleFaults
+pub mod ClassHomes
 pub mod ClassesValues
 pub mod Homes
 pub mod Labels

@@ -25,7 +25,10 @@ pub use circle_faults::{Spanned, first_on_circle};
 pub use holdings::Holding;
 pub use homes::{Home, class_homes};
 pub use labels::class_labels;
-pub use laws::{one_choice, one_merge, some_choice};
+pub use laws::{
+    homes_are_of_classes, merged_or_broken, no_merge_fault_misses_a_file, one_choice, one_merge,
+    one_merge_fault, rows_are_numbered, some_choice, some_circle_verdict, some_merge,
+};
 pub use links::member_links;
 pub use merged::{Classes, merge};
 pub use numbers::{Block, MemberNumbers};
